@@ -1,0 +1,22 @@
+// Bytes and little-endian words of a lent slice. What lies past the end reads as 0, so no caller has an index to show.
+ghost use mathlib.Core.Path.{_≡_};
+ghost use Prim.Native.Nat.{_<_};
+ghost use Rattle.words.specs.Bytes.{byteAt, wordAt};
+
+// The byte at `at`.
+pub fn byte(s: &[u8], at: usize) -> usize
+    ensures { λ r. ⌜ (r ≡ byteAt (now (s .entry)) at) × (r < 256) ⌝ }
+{
+    if at < s.len() { s[at] as usize } else { 0 }
+}
+
+// The two bytes at `at`, low byte first.
+pub fn word(s: &[u8], at: usize) -> usize
+    ensures { λ r. ⌜ (r ≡ wordAt (now (s .entry)) at) × (r < 65536) ⌝ }
+{
+    if at < s.len() {
+        byte(s, at) + 256 * byte(s, at + 1)
+    } else {
+        0
+    }
+}
