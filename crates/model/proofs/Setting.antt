@@ -1,7 +1,8 @@
 -- What the theorems are about: effects with their laws, a graph that is well formed, what its nodes do and the effects that tell of it,
 -- and an opening stock.
-use mathlib.Core.Path.{_≡_}
+use mathlib.Core.Path.{_≡_, sym}
 use Prim.Native.Nat.{ℕ, _≤_, _<_, min}
+use native.Mathlib.Nat.{le-of-eq, le-antisymm}
 use Rattle.model.specs.Machine.{Graph, Doing}
 use Rattle.model.specs.Rules.{Effects}
 use Rattle.model.proofs.Formed.{Formed}
@@ -14,6 +15,10 @@ pub record Laws (W : Effects) : Type 0 where
   pub apply-then : (a b : W .Effect) (i : W .Coord) (s : W .Stock) → W .at i (W .apply (W .then a b) s) ≡ W .at i (W .apply b (W .apply a s))
   pub apply-both : (a b : W .Effect) (i : W .Coord) (s : W .Stock) → W .at i (W .apply (W .both a b) s) ≡ min (W .at i (W .apply a s)) (W .at i (W .apply b s))
   pub at-lower : (s t : W .Stock) (i : W .Coord) → W .at i (W .lower s t) ≡ min (W .at i s) (W .at i t)
+
+-- so what an effect leaves at a coordinate depends on that coordinate alone
+pub apply-same : (W : Effects) → Laws W → (e : W .Effect) (i : W .Coord) (s t : W .Stock) → W .at i s ≡ W .at i t → W .at i (W .apply e s) ≡ W .at i (W .apply e t)
+apply-same W L e i s t h = le-antisymm (L .apply-mono e i s t (le-of-eq h)) (L .apply-mono e i t s (le-of-eq (sym h)))
 
 -- The effect `step n` tells of the own step of the node n; and a draw is covered exactly if each coordinate that it needs is at least 1.
 pub record Told (W : Effects) (D : Doing (W .Stock)) (step : ℕ → W .Effect) : Type 1 where

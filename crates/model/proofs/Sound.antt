@@ -9,7 +9,7 @@ use native.Mathlib.Omega.{arith}
 use Rattle.model.specs.Machine.{Graph, Doing, Frame, frame, Config, At, Out, Step, along, enter, again, back, caught, leaves, handled, passes, Steps, stay, more, Run}
 use Rattle.model.specs.Rules.{Effects, Below, AtMost, times, Sheet, Reached, stock-at, after, Rounds, AskMethod, AskNode, AskExit, rule1, rule2, rule3, rule4, rule5, rule6, rule7, rule8, rule9, rule10, Obeys}
 use Rattle.model.proofs.Formed.{Formed}
-use Rattle.model.proofs.Setting.{Setting, Laws, Told}
+use Rattle.model.proofs.Setting.{Setting, Laws, Told, apply-same}
 
 module _ (S : Setting) (T : Sheet (S .W)) where
   open Setting S using (W, G, D, step, opening)
@@ -24,10 +24,6 @@ module _ (S : Setting) (T : Sheet (S .W)) where
   abbrev pub rounds-of : ℕ → ℕ → ℕ → Effect
   rounds-of = after W G step opening T
 
-  -- what an effect leaves at a coordinate depends on that coordinate alone
-  pub apply-same : (e : Effect) (i : Coord) (s t : Stock) → at i s ≡ at i t → at i (apply e s) ≡ at i (apply e t)
-  apply-same e i s t h = le-antisymm (apply-mono e i s t (le-of-eq h)) (apply-mono e i t s (le-of-eq (sym h)))
-
   pub after-zero : (c m : ℕ) (i : Coord) (s : Stock) → at i (apply (rounds-of c m 0) s) ≡ at i (apply (node c) s)
   unfolding times
   after-zero c m i s = apply-then (node c) nothing i s ∙ apply-nothing i (apply (node c) s)
@@ -37,7 +33,7 @@ module _ (S : Setting) (T : Sheet (S .W)) where
   after-suc c m j i s =
       let x = apply (node c) s in
       let e = times W j (exit m 0) in
-      apply-then (node c) (then e (exit m 0)) i s ∙ apply-then e (exit m 0) i x ∙ apply-same (exit m 0) i (apply e x) (apply (then (node c) e) s) (sym (apply-then (node c) e i s))
+      apply-then (node c) (then e (exit m 0)) i s ∙ apply-then e (exit m 0) i x ∙ apply-same W (S .laws) (exit m 0) i (apply e x) (apply (then (node c) e) s) (sym (apply-then (node c) e i s))
 
   -- what is known of a frame whose call entered m and holds s at m's entry
   pub record Held (Q : ℕ → Stock → Type 0) (c m′ k m : ℕ) (s : Stock) : Type 0 where
