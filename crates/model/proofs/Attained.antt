@@ -126,7 +126,7 @@ module _ (S : Setting) where
     again-after {c} {m} ca nc l j y = again-with c m ca nc l j (repeats c - j) (omega arith) (omega arith) (y .1)
 
     -- what a rule names for a method, a run brings
-    method-asked : {r m : ℕ} {t : Stock} → AskMethod W G step opening T r m t → MethodHit m t
+    pub method-asked : {r m : ℕ} {t : Stock} → AskMethod W G step opening T r m t → MethodHit m t
     method-asked rule1 i = record { brought = opening; how = ([], at-start); low = le-refl (at i opening) }
     method-asked (rule8 {c} {m} ca y l j r) i =
         let b = methods-hit (method c) (y .1) i in
@@ -161,7 +161,7 @@ module _ (S : Setting) where
           low = omega (arith, o .low, apply-mono (exit m (suc e)) i (h .brought) (apply (rounds-of S T c m j) s) (h .low), apply-then (rounds-of S T c m j) (exit m (suc e)) i s);
         }
 
-    node-asked : {r n : ℕ} {e : Effect} → AskNode W G step opening T r n e → NodeHit n e
+    pub node-asked : {r n : ℕ} {e : Effect} → AskNode W G step opening T r n e → NodeHit n e
     node-asked (rule2 {m} lt) i σ s = record { brought = s; how = rw (entry-inside m lt .1) stay; low = le-of-eq (sym (apply-nothing i s)) }
     node-asked (rule3 {n} {n′} p nn f) i σ s =
         let h = nodes-hit n nn i σ s in
@@ -178,7 +178,7 @@ module _ (S : Setting) where
         let h = thrown ca nc l x j y i σ s in
         record { brought = h .brought; how = rw (← catch-inside c e d r .1) (more (h .how) (handled r)); low = h .low }
 
-    exit-asked : {r m x : ℕ} {e : Effect} → AskExit W G step opening T r m x e → ExitHit m x e
+    pub exit-asked : {r m x : ℕ} {e : Effect} → AskExit W G step opening T r m x e → ExitHit m x e
     exit-asked (rule5 {n} r nn) i σ s =
         let h = nodes-hit n nn i σ s in
         record { brought = h .brought; how = (n, r, refl, h .how); low = h .low }

@@ -9,14 +9,13 @@ use Rattle.model.specs.Machine.{Graph, Uncaught}
 use Rattle.model.specs.Rules.{Effects, Below, AtMost, Sheet, Reached, Rounds, AskMethod, AskNode, AskExit, rule1, rule2, rule3, rule4, rule5, rule6, rule7, rule8, rule9, rule10, Rule}
 use Rattle.model.specs.Rounds.{whole-rounds, earlier-rounds}
 use Rattle.model.proofs.Formed.{Formed}
-use Rattle.model.proofs.Setting.{Setting, Laws}
+use Rattle.model.proofs.Setting.{Setting, then-low}
 use Rattle.model.proofs.Rounds.{Before, taken, whole-under, whole-hit, earlier-under, earlier-hit}
 
 -- `returns m` tells whether exit 0 of the method m is marked.
 module _ (S : Setting) (T : Sheet (S .W)) (returns : ℕ → Bool) where
   open Setting S using (W, G, step, opening)
   open Effects W using (Stock, Effect, Coord, at, apply, nothing, then)
-  open Laws (S .laws) using (apply-mono, apply-then)
   open Graph G using (methods, entry, method, repeats, Goes, Call, Return, Throw, Flow, Calls, Catch)
   open Formed (S .formed) using (some-repeats)
   open Sheet T using (Called, stock, Exit, exit, Node, node)
@@ -46,13 +45,9 @@ module _ (S : Setting) (T : Sheet (S .W)) (returns : ℕ → Bool) where
     before {c} {m} (l, inl e) = (l, inl e)
     before {c} {m} (l, inr x) = (l, inr (of-marked m x))
 
-    rounds : {c m j : ℕ} → Before W (S .laws) (node c) (exit m 0) (returns m) (repeats c) j → Rounds W G step opening T c m j
+    pub rounds : {c m j : ℕ} → Before W (S .laws) (node c) (exit m 0) (returns m) (repeats c) j → Rounds W G step opening T c m j
     rounds {c} {m} (l, inl e) = (l, inl e)
     rounds {c} {m} (l, inr x) = (l, inr (marked-of m x))
-
-    -- an effect that comes after earlier rounds keeps their order
-    then-low : (a b x : Effect) (i : Coord) (s : Stock) → at i (apply a s) ≤ at i (apply b s) → at i (apply (then a x) s) ≤ at i (apply (then b x) s)
-    then-low a b x i s h = omega (arith, apply-then a x i s, apply-then b x i s, apply-mono x i (apply a s) (apply b s) h)
 
     pub demanded : (r : ℕ) → Demands r → Rule W G step opening T r
     demanded r d = record { methods-obey = methods-ok d; nodes-obey = nodes-ok d; exits-obey = exits-ok d }
@@ -72,14 +67,14 @@ module _ (S : Setting) (T : Sheet (S .W)) (returns : ℕ → Bool) where
             (p .0, λ s i. le-trans (p .1 s i) (whole-under W (S .laws) (node c) (exit m 0) (repeats c) k a b s i))
         nodes-ok d (rule9 {c} {m} {e} {h} ca y l x k j rd) =
             let p = d .from-call refl c m e h ca y l x k in
-            (p .0, λ s i. le-trans (p .1 s i) (then-low (earlier c m) _ (exit m (suc e)) i s (earlier-under W (S .laws) (node c) (exit m 0) (returns m) (repeats c) j (before rd) s i)))
+            (p .0, λ s i. le-trans (p .1 s i) (then-low W (S .laws) (earlier c m) _ (exit m (suc e)) i s (earlier-under W (S .laws) (node c) (exit m 0) (returns m) (repeats c) j (before rd) s i)))
 
         exits-ok : {r m x : ℕ} {e : Effect} → Demands r → AskExit W G step opening T r m x e → Exit m x × AtMost W (exit m x) e
         exits-ok d (rule5 {n} t y) = d .at-return refl n t y
         exits-ok d (rule6 {n} {e} t y u) = d .at-throw refl n e t y u
         exits-ok d (rule10 {c} {m} {e} ca y l x u j rd) =
             let p = d .through-call refl c m e ca y l x u in
-            (p .0, λ s i. le-trans (p .1 s i) (then-low (earlier c m) _ (exit m (suc e)) i s (earlier-under W (S .laws) (node c) (exit m 0) (returns m) (repeats c) j (before rd) s i)))
+            (p .0, λ s i. le-trans (p .1 s i) (then-low W (S .laws) (earlier c m) _ (exit m (suc e)) i s (earlier-under W (S .laws) (node c) (exit m 0) (returns m) (repeats c) j (before rd) s i)))
 
     -- no more is asked of the lowest of the rounds than the rule asks: at each coordinate it is one that the rule names
     pub demands : (r : ℕ) → Rule W G step opening T r → Demands r
@@ -107,13 +102,13 @@ module _ (S : Setting) (T : Sheet (S .W)) (returns : ℕ → Bool) where
         of 9 q .nodes-obey (rule9 ca y l x t 0 (some-repeats c ca, inl refl)) .0,
         λ s i.
             let h = earlier-hit W (S .laws) (node c) (exit m 0) (returns m) (repeats c) (some-repeats c ca) i s in
-            le-trans (of 9 q .nodes-obey (rule9 ca y l x t (h .0) (rounds (h .1))) .1 s i) (then-low _ (earlier c m) (exit m (suc e)) i s (h .2)),
+            le-trans (of 9 q .nodes-obey (rule9 ca y l x t (h .0) (rounds (h .1))) .1 s i) (then-low W (S .laws) _ (earlier c m) (exit m (suc e)) i s (h .2)),
       );
       through-call = λ q c m e ca y l x u. (
         of 10 q .exits-obey (rule10 ca y l x u 0 (some-repeats c ca, inl refl)) .0,
         λ s i.
             let h = earlier-hit W (S .laws) (node c) (exit m 0) (returns m) (repeats c) (some-repeats c ca) i s in
-            le-trans (of 10 q .exits-obey (rule10 ca y l x u (h .0) (rounds (h .1))) .1 s i) (then-low _ (earlier c m) (exit m (suc e)) i s (h .2)),
+            le-trans (of 10 q .exits-obey (rule10 ca y l x u (h .0) (rounds (h .1))) .1 s i) (then-low W (S .laws) _ (earlier c m) (exit m (suc e)) i s (h .2)),
       );
     }
       where

@@ -5,4 +5,5 @@ pub mod Attained
 pub mod Exact
 pub mod Rounds
 pub mod Demands
+pub mod Brought
 pub mod Example

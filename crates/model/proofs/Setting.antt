@@ -3,6 +3,7 @@
 use mathlib.Core.Path.{_≡_, sym}
 use Prim.Native.Nat.{ℕ, _≤_, _<_, min}
 use native.Mathlib.Nat.{le-of-eq, le-antisymm}
+use native.Mathlib.Omega.{arith}
 use Rattle.model.specs.Machine.{Graph, Doing}
 use Rattle.model.specs.Rules.{Effects}
 use Rattle.model.proofs.Formed.{Formed}
@@ -19,6 +20,10 @@ pub record Laws (W : Effects) : Type 0 where
 -- so what an effect leaves at a coordinate depends on that coordinate alone
 pub apply-same : (W : Effects) → Laws W → (e : W .Effect) (i : W .Coord) (s t : W .Stock) → W .at i s ≡ W .at i t → W .at i (W .apply e s) ≡ W .at i (W .apply e t)
 apply-same W L e i s t h = le-antisymm (L .apply-mono e i s t (le-of-eq h)) (L .apply-mono e i t s (le-of-eq (sym h)))
+
+-- and where one effect leaves less than another, so it does with a third after both
+pub then-low : (W : Effects) → Laws W → (a b x : W .Effect) (i : W .Coord) (s : W .Stock) → W .at i (W .apply a s) ≤ W .at i (W .apply b s) → W .at i (W .apply (W .then a x) s) ≤ W .at i (W .apply (W .then b x) s)
+then-low W L a b x i s h = omega (arith, L .apply-then a x i s, L .apply-then b x i s, L .apply-mono x i (W .apply a s) (W .apply b s) h)
 
 -- The effect `step n` tells of the own step of the node n; and a draw is covered exactly if each coordinate that it needs is at least 1.
 pub record Told (W : Effects) (D : Doing (W .Stock)) (step : ℕ → W .Effect) : Type 1 where
