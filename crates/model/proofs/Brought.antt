@@ -35,7 +35,7 @@ module _ (S : Setting) (T : Sheet (S .W)) (A : Attained S T) where
   pub at-throw : (n e : ℕ) → Throw n e → Node n → Uncaught G n e → ExitHit S (method n) (suc e) (node n)
   at-throw n e t y u = exit-asked S T A (rule6 t y u)
 
-  module _ (returns : ℕ → Bool) (marked-of : (m : ℕ) → returns m ≡ true → Exit m 0) (of-marked : (m : ℕ) → Exit m 0 → returns m ≡ true) where
+  module _ (returns : ℕ → Bool) (marked-of : (m : ℕ) → m < methods → returns m ≡ true → Exit m 0) (of-marked : (m : ℕ) → Exit m 0 → returns m ≡ true) where
     pub after-call : (c m n′ : ℕ) → Call c → Node c → Calls c m → Exit m 0 → Flow c n′ → NodeHit S n′ (whole S T returns c m)
     after-call c m n′ ca y l x f i σ s =
         let h = whole-hit W (S .laws) (node c) (exit m 0) (repeats c) (some-repeats c ca) i s in
@@ -44,16 +44,16 @@ module _ (S : Setting) (T : Sheet (S .W)) (A : Attained S T) where
     pub into-call : (c m : ℕ) → Call c → Reached W G T c → Calls c m → MethodHit S m (apply (earlier S T returns c m) (stock (method c)))
     into-call c m ca y l i =
         let h = earlier-hit W (S .laws) (node c) (exit m 0) (returns m) (repeats c) (some-repeats c ca) i (stock (method c)) in
-        hit-weaker S (h .2) (method-asked S T A (rule8 ca y l (h .0) (rounds S T returns marked-of of-marked (h .1))) i)
+        hit-weaker S (h .2) (method-asked S T A (rule8 ca y l (h .0) (rounds S T returns marked-of of-marked l (h .1))) i)
 
     pub from-call : (c m e k : ℕ) → Call c → Node c → Calls c m → Exit m (suc e) → Catch c e k → NodeHit S k (then (earlier S T returns c m) (exit m (suc e)))
     from-call c m e k ca y l x t i σ s =
         let h = earlier-hit W (S .laws) (node c) (exit m 0) (returns m) (repeats c) (some-repeats c ca) i s in
         hit-weaker S (then-low W (S .laws) _ (earlier S T returns c m) (exit m (suc e)) i s (h .2))
-        (node-asked S T A (rule9 ca y l x t (h .0) (rounds S T returns marked-of of-marked (h .1))) i σ s)
+        (node-asked S T A (rule9 ca y l x t (h .0) (rounds S T returns marked-of of-marked l (h .1))) i σ s)
 
     pub through-call : (c m e : ℕ) → Call c → Node c → Calls c m → Exit m (suc e) → Uncaught G c e → ExitHit S (method c) (suc e) (then (earlier S T returns c m) (exit m (suc e)))
     through-call c m e ca y l x u i σ s =
         let h = earlier-hit W (S .laws) (node c) (exit m 0) (returns m) (repeats c) (some-repeats c ca) i s in
         hit-weaker S (then-low W (S .laws) _ (earlier S T returns c m) (exit m (suc e)) i s (h .2))
-        (exit-asked S T A (rule10 ca y l x u (h .0) (rounds S T returns marked-of of-marked (h .1))) i σ s)
+        (exit-asked S T A (rule10 ca y l x u (h .0) (rounds S T returns marked-of of-marked l (h .1))) i σ s)

@@ -17,7 +17,7 @@ module _ (S : Setting) (T : Sheet (S .W)) (returns : ℕ → Bool) where
   open Setting S using (W, G, step, opening)
   open Effects W using (Stock, Effect, Coord, at, apply, nothing, then)
   open Graph G using (methods, entry, method, repeats, Goes, Call, Return, Throw, Flow, Calls, Catch)
-  open Formed (S .formed) using (some-repeats)
+  open Formed (S .formed) using (calls-inside, some-repeats)
   open Sheet T using (Called, stock, Exit, exit, Node, node)
 
   abbrev pub whole : ℕ → ℕ → Effect
@@ -39,15 +39,15 @@ module _ (S : Setting) (T : Sheet (S .W)) (returns : ℕ → Bool) where
     pub from-call : r ≡ 9 → (c m e h : ℕ) → Call c → Node c → Calls c m → Exit m (suc e) → Catch c e h → Node h × AtMost W (node h) (then (earlier c m) (exit m (suc e)))
     pub through-call : r ≡ 10 → (c m e : ℕ) → Call c → Node c → Calls c m → Exit m (suc e) → Uncaught G c e → Exit (method c) (suc e) × AtMost W (exit (method c) (suc e)) (then (earlier c m) (exit m (suc e)))
 
-  module _ (marked-of : (m : ℕ) → returns m ≡ true → Exit m 0) (of-marked : (m : ℕ) → Exit m 0 → returns m ≡ true) where
+  module _ (marked-of : (m : ℕ) → m < methods → returns m ≡ true → Exit m 0) (of-marked : (m : ℕ) → Exit m 0 → returns m ≡ true) where
     -- the rules' way to count earlier rounds, and the test's
     before : {c m j : ℕ} → Rounds W G step opening T c m j → Before W (S .laws) (node c) (exit m 0) (returns m) (repeats c) j
     before {c} {m} (l, inl e) = (l, inl e)
     before {c} {m} (l, inr x) = (l, inr (of-marked m x))
 
-    pub rounds : {c m j : ℕ} → Before W (S .laws) (node c) (exit m 0) (returns m) (repeats c) j → Rounds W G step opening T c m j
-    rounds {c} {m} (l, inl e) = (l, inl e)
-    rounds {c} {m} (l, inr x) = (l, inr (marked-of m x))
+    pub rounds : {c m j : ℕ} → Calls c m → Before W (S .laws) (node c) (exit m 0) (returns m) (repeats c) j → Rounds W G step opening T c m j
+    rounds {c} {m} k (l, inl e) = (l, inl e)
+    rounds {c} {m} k (l, inr x) = (l, inr (marked-of m (calls-inside c m k .1) x))
 
     pub demanded : (r : ℕ) → Demands r → Rule W G step opening T r
     demanded r d = record { methods-obey = methods-ok d; nodes-obey = nodes-ok d; exits-obey = exits-ok d }
@@ -96,19 +96,19 @@ module _ (S : Setting) (T : Sheet (S .W)) (returns : ℕ → Bool) where
         of 8 q .methods-obey (rule8 ca y l 0 (some-repeats c ca, inl refl)) .0,
         λ i.
             let h = earlier-hit W (S .laws) (node c) (exit m 0) (returns m) (repeats c) (some-repeats c ca) i (stock (method c)) in
-            le-trans (of 8 q .methods-obey (rule8 ca y l (h .0) (rounds (h .1))) .1 i) (h .2),
+            le-trans (of 8 q .methods-obey (rule8 ca y l (h .0) (rounds l (h .1))) .1 i) (h .2),
       );
       from-call = λ q c m e k ca y l x t. (
         of 9 q .nodes-obey (rule9 ca y l x t 0 (some-repeats c ca, inl refl)) .0,
         λ s i.
             let h = earlier-hit W (S .laws) (node c) (exit m 0) (returns m) (repeats c) (some-repeats c ca) i s in
-            le-trans (of 9 q .nodes-obey (rule9 ca y l x t (h .0) (rounds (h .1))) .1 s i) (then-low W (S .laws) _ (earlier c m) (exit m (suc e)) i s (h .2)),
+            le-trans (of 9 q .nodes-obey (rule9 ca y l x t (h .0) (rounds l (h .1))) .1 s i) (then-low W (S .laws) _ (earlier c m) (exit m (suc e)) i s (h .2)),
       );
       through-call = λ q c m e ca y l x u. (
         of 10 q .exits-obey (rule10 ca y l x u 0 (some-repeats c ca, inl refl)) .0,
         λ s i.
             let h = earlier-hit W (S .laws) (node c) (exit m 0) (returns m) (repeats c) (some-repeats c ca) i s in
-            le-trans (of 10 q .exits-obey (rule10 ca y l x u (h .0) (rounds (h .1))) .1 s i) (then-low W (S .laws) _ (earlier c m) (exit m (suc e)) i s (h .2)),
+            le-trans (of 10 q .exits-obey (rule10 ca y l x u (h .0) (rounds l (h .1))) .1 s i) (then-low W (S .laws) _ (earlier c m) (exit m (suc e)) i s (h .2)),
       );
     }
       where

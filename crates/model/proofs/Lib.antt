@@ -6,4 +6,5 @@ pub mod Exact
 pub mod Rounds
 pub mod Demands
 pub mod Brought
+pub mod Stocks
 pub mod Example

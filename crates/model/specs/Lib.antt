@@ -1,3 +1,4 @@
 pub mod Machine
 pub mod Rules
 pub mod Rounds
+pub mod Stocks

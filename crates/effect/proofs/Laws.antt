@@ -1,0 +1,248 @@
+-- The laws of stocks and effects, for every value unless a premise says otherwise.
+--   then is composition      apply-then, then-assoc, then-mono, then-both-l, then-both-r
+--   both is the smaller      apply-both, apply-lower, both-comm, both-left, both-right, both-greatest
+--   nothing done             apply-nothing
+--   every result is normal   nothing-normal, draw-normal, grant-normal, then-normal, both-normal, form-kept
+--   the tests are exact      stock-sound, stock-complete, at-most-sound, at-most-complete
+--   the order                apply-mono, at-most-refl, at-most-trans, at-most-anti, canonical
+use Prim.Native.Nat.{ℕ, _≤_, _<_, min}
+use mathlib.Core.Path.{_≡_, refl, sym, _∙_, ap}
+use mathlib.Core.Bool.{Bool, true, false}
+use native.Mathlib.Omega.{arith}
+use native.Mathlib.Decide.{decLt}
+use lib.Dec.{eqb}
+use lib.Bits.{and-comm}
+use Rattle.single.specs.declared.Held.{Held}
+use Rattle.single.specs.declared.One.{One}
+use Rattle.single.specs.Number.{rightsAfter, countAfter, normDrop, within}
+use Rattle.single.specs.Single.{normalForm, normalOne, idle, drawn, granted, applyOne, thenOne, bothOne, atMostOne, heldAtMost, lowerHeld}
+use Rattle.effect.specs.declared.Stock.{Stock}
+use Rattle.effect.specs.declared.Effect.{Effect}
+use Rattle.effect.specs.Six.{heldAt, stockOf, oneAt, effectOf}
+use Rattle.effect.specs.Whole.{normalOf, nothingDone, oneIf, drawOf, grantOf, applyOf, thenOf, bothOf, atMostOf, stockAtMostOf, lowerOf}
+use Rattle.effect.specs.Meaning.{bit, HeldBelow, Below, AtMost}
+use Rattle.effect.proofs.Bit.{bit-and, bit-ext, bit-high}
+use Rattle.effect.proofs.Rights.{bit-after, rights-nothing}
+use Rattle.effect.proofs.Count.{after-nothing}
+use Rattle.effect.proofs.Six.{all-i, all-e, stock-at, among-ext, SixHeld, SixOnes}
+use Rattle.effect.proofs.Single.{form-normal, form-same, one-then, one-both, one-lower, one-mono, held-sound, held-complete, one-refl, one-trans, one-sound, one-complete, one-anti}
+
+pub apply-then : (a b : Effect) (s : Stock) → applyOf (thenOf a b) s ≡ applyOf b (applyOf a s)
+unfolding applyOf thenOf
+apply-then a b s = λ i. stockOf (λ k. one-then (oneAt a k) (oneAt b k) (heldAt s k) i)
+
+pub apply-both : (a b : Effect) (s : Stock) → applyOf (bothOf a b) s ≡ lowerOf (applyOf a s) (applyOf b s)
+unfolding applyOf bothOf lowerOf
+apply-both a b s = λ i. stockOf (λ k. one-both (oneAt a k) (oneAt b k) (heldAt s k) i)
+
+pub apply-lower : (e : Effect) (s t : Stock) → applyOf e (lowerOf s t) ≡ lowerOf (applyOf e s) (applyOf e t)
+unfolding applyOf lowerOf
+apply-lower e s t = λ i. stockOf (λ k. one-lower (oneAt e k) (heldAt s k) (heldAt t k) i)
+
+-- every result is normal
+pub then-normal : (a b : Effect) → normalOf (thenOf a b) ≡ true
+unfolding normalOf thenOf thenOne
+then-normal a b = all-i (λ k. normalOne (thenOne (oneAt a k) (oneAt b k))) (λ k h. form-normal _)
+
+pub both-normal : (a b : Effect) → normalOf (bothOf a b) ≡ true
+unfolding normalOf bothOf bothOne
+both-normal a b = all-i (λ k. normalOne (bothOne (oneAt a k) (oneAt b k))) (λ k h. form-normal _)
+
+idle-normal : normalOne idle ≡ true
+unfolding idle normalOne within normDrop
+idle-normal = refl
+
+drawn-normal : normalOne drawn ≡ true
+unfolding drawn normalOne within normDrop
+drawn-normal = refl
+
+pub nothing-normal : normalOf nothingDone ≡ true
+unfolding normalOf nothingDone
+nothing-normal = all-i (λ k. normalOne idle) (λ k h. idle-normal)
+
+if-normal : (x : One) → normalOne x ≡ true → (t : Bool) → normalOne (oneIf t x) ≡ true
+if-normal x n true = n
+if-normal x n false = idle-normal
+
+pub draw-normal : (t : ℕ) → normalOf (drawOf t) ≡ true
+unfolding normalOf drawOf
+draw-normal t = all-i (λ k. normalOne (oneIf (eqb k t) drawn)) (λ k h. if-normal drawn drawn-normal (eqb k t))
+
+pub grant-normal : (t p m : ℕ) → normalOf (grantOf t p m) ≡ true
+unfolding normalOf grantOf granted
+grant-normal t p m =
+    all-i (λ k. normalOne (oneIf (eqb k t) (granted p m))) (λ k h. if-normal (granted p m) (form-normal _) (eqb k t))
+
+pub normal-at : (e : Effect) → normalOf e ≡ true → (k : ℕ) → k < 6 → normalOne (oneAt e k) ≡ true
+unfolding normalOf
+normal-at e n = all-e (λ k. normalOne (oneAt e k)) n
+
+pub form-kept : (e : Effect) → normalOf e ≡ true → (k : ℕ) → k < 6 → normalForm (oneAt e k) ≡ oneAt e k
+form-kept e n k h = form-same (oneAt e k) (normal-at e n k h)
+
+-- what is at a type after an effect, and in the smaller stock
+pub applied-at : (e : Effect) (s : Stock) (k : ℕ) → k < 6 → heldAt (applyOf e s) k ≡ applyOne (oneAt e k) (heldAt s k)
+unfolding applyOf
+applied-at e s = stock-at (λ k. applyOne (oneAt e k) (heldAt s k))
+
+pub lower-at : (s t : Stock) (k : ℕ) → k < 6 → heldAt (lowerOf s t) k ≡ lowerHeld (heldAt s k) (heldAt t k)
+unfolding lowerOf
+lower-at s t = stock-at (λ k. lowerHeld (heldAt s k) (heldAt t k))
+
+-- the order of stocks
+below-refl : (s : Stock) → Below s s
+below-refl s k h = record { every-right = λ b. omega arith; the-count = omega arith }
+
+below-trans : (s t u : Stock) → Below s t → Below t u → Below s u
+below-trans s t u p q k h =
+    let a = p k h in
+    let b = q k h in
+    record { every-right = λ j. omega (arith, a .every-right j, b .every-right j); the-count = omega (arith, a .the-count, b .the-count) }
+
+below-along : {h h′ g g′ : Held} → h ≡ h′ → g ≡ g′ → HeldBelow h′ g′ → HeldBelow h g
+below-along p q l = rw (p, q) l
+
+pub stock-sound : (s t : Stock) → stockAtMostOf s t ≡ true → Below s t
+unfolding stockAtMostOf
+stock-sound s t q k h = held-sound (heldAt s k) (heldAt t k) (all-e (λ k. heldAtMost (heldAt s k) (heldAt t k)) q k h)
+
+pub stock-complete : (s t : Stock) → Below s t → stockAtMostOf s t ≡ true
+unfolding stockAtMostOf
+stock-complete s t q = all-i (λ k. heldAtMost (heldAt s k) (heldAt t k)) (λ k h. held-complete (heldAt s k) (heldAt t k) (q k h))
+
+pub apply-mono : (e : Effect) (s t : Stock) → Below s t → Below (applyOf e s) (applyOf e t)
+apply-mono e s t q k h =
+    below-along (applied-at e s k h) (applied-at e t k h) (one-mono (oneAt e k) (heldAt s k) (heldAt t k) (q k h))
+
+held-comm : (h g : Held) → lowerHeld h g ≡ lowerHeld g h
+unfolding lowerHeld
+held-comm h g =
+    let e : min (h .count) (g .count) ≡ min (g .count) (h .count) = omega arith in
+    λ i. record { rights = and-comm (h .rights) (g .rights) i; count = e i }
+
+pub lower-comm : (s t : Stock) → lowerOf s t ≡ lowerOf t s
+unfolding lowerOf
+lower-comm s t = λ i. stockOf (λ k. held-comm (heldAt s k) (heldAt t k) i)
+
+pub lower-below : (s t : Stock) → Below (lowerOf s t) s
+unfolding lowerHeld
+lower-below s t k h =
+    below-along (lower-at s t k h) refl
+    (record { every-right = λ b. omega (arith, bit-and b (heldAt s k .rights) (heldAt t k .rights)); the-count = omega arith })
+
+pub lower-greatest : (u s t : Stock) → Below u s → Below u t → Below u (lowerOf s t)
+unfolding lowerHeld
+lower-greatest u s t p q k h =
+    let a = p k h in
+    let b = q k h in
+    below-along refl (lower-at s t k h)
+    (record {
+      every-right = λ j. omega (arith, bit-and j (heldAt s k .rights) (heldAt t k .rights), a .every-right j, b .every-right j);
+      the-count = omega (arith, a .the-count, b .the-count);
+    })
+
+-- the test of effects is the meaning
+pub at-most-sound : (a b : Effect) → atMostOf a b ≡ true → AtMost a b
+unfolding atMostOf
+at-most-sound a b t s k h =
+    below-along (applied-at a s k h) (applied-at b s k h)
+    (one-sound (oneAt a k) (oneAt b k) (all-e (λ k. atMostOne (oneAt a k) (oneAt b k)) t k h) (heldAt s k))
+
+-- the same of every type tells each type's effect
+pub at-most-complete : (a b : Effect) → normalOf a ≡ true → AtMost a b → atMostOf a b ≡ true
+unfolding atMostOf
+at-most-complete a b n q =
+    all-i (λ k. atMostOne (oneAt a k) (oneAt b k))
+    (λ k h. one-complete (oneAt a k) (oneAt b k) (normal-at a n k h)
+    (λ g. let s = stockOf (λ j. g) in
+    let at : (e : Effect) → applyOne (oneAt e k) g ≡ heldAt (applyOf e s) k =
+    λ e. sym (applied-at e s k h ∙ ap (applyOne (oneAt e k)) (stock-at (λ j. g) k h)) in
+    below-along (at a) (at b) (q s k h)))
+
+pub at-most-refl : (a : Effect) → atMostOf a a ≡ true
+unfolding atMostOf
+at-most-refl a = all-i (λ k. atMostOne (oneAt a k) (oneAt a k)) (λ k h. one-refl (oneAt a k))
+
+pub at-most-trans : (a b c : Effect) → atMostOf a b ≡ true → atMostOf b c ≡ true → atMostOf a c ≡ true
+unfolding atMostOf
+at-most-trans a b c p q =
+    all-i (λ k. atMostOne (oneAt a k) (oneAt c k))
+    (λ k h. one-trans (oneAt a k) (oneAt b k) (oneAt c k) (all-e (λ k. atMostOne (oneAt a k) (oneAt b k)) p k h)
+    (all-e (λ k. atMostOne (oneAt b k) (oneAt c k)) q k h))
+
+pub at-most-anti : (a b : Effect) → normalOf a ≡ true → normalOf b ≡ true → SixOnes a → SixOnes b → atMostOf a b ≡ true → atMostOf b a ≡ true → a ≡ b
+unfolding atMostOf
+at-most-anti a b m n u v p q =
+    sym u
+    ∙ ap effectOf
+    (among-ext (oneAt a) (oneAt b)
+    (λ k h. one-anti (oneAt a k) (oneAt b k) (normal-at a m k h) (normal-at b n k h) (all-e (λ k. atMostOne (oneAt a k) (oneAt b k)) p k h)
+    (all-e (λ k. atMostOne (oneAt b k) (oneAt a k)) q k h)))
+    ∙ v
+
+-- equal functions are equal effects
+pub canonical : (a b : Effect) → normalOf a ≡ true → normalOf b ≡ true → SixOnes a → SixOnes b → ((s : Stock) → applyOf a s ≡ applyOf b s) → a ≡ b
+canonical a b m n u v e =
+    at-most-anti a b m n u v (at-most-complete a b m (λ s. rw (e s) (below-refl (applyOf b s))))
+    (at-most-complete b a n (λ s. rw (e s) (below-refl (applyOf b s))))
+
+pub then-mono : (a a′ b b′ : Effect) → atMostOf a a′ ≡ true → atMostOf b b′ ≡ true → atMostOf (thenOf a b) (thenOf a′ b′) ≡ true
+then-mono a a′ b b′ p q =
+    at-most-complete (thenOf a b) (thenOf a′ b′) (then-normal a b)
+    (λ s. let t = applyOf a s in
+    let t′ = applyOf a′ s in
+    rw (apply-then a b s, apply-then a′ b′ s)
+    (below-trans (applyOf b t) (applyOf b t′) (applyOf b′ t′) (apply-mono b t t′ (at-most-sound a a′ p s)) (at-most-sound b b′ q t′)))
+
+pub then-assoc : (a b c : Effect) → thenOf (thenOf a b) c ≡ thenOf a (thenOf b c)
+unfolding thenOf
+then-assoc a b c =
+    canonical (thenOf (thenOf a b) c) (thenOf a (thenOf b c)) (then-normal (thenOf a b) c) (then-normal a (thenOf b c)) refl refl
+    (λ s. simp apply-then)
+
+-- then over both, on either side
+pub then-both-l : (a b c : Effect) → thenOf (bothOf a b) c ≡ bothOf (thenOf a c) (thenOf b c)
+unfolding thenOf bothOf
+then-both-l a b c =
+    canonical (thenOf (bothOf a b) c) (bothOf (thenOf a c) (thenOf b c)) (then-normal (bothOf a b) c) (both-normal (thenOf a c) (thenOf b c)) refl refl
+    (λ s. simp (apply-then, apply-both, apply-lower))
+
+pub then-both-r : (a b c : Effect) → thenOf a (bothOf b c) ≡ bothOf (thenOf a b) (thenOf a c)
+unfolding thenOf bothOf
+then-both-r a b c =
+    canonical (thenOf a (bothOf b c)) (bothOf (thenOf a b) (thenOf a c)) (then-normal a (bothOf b c)) (both-normal (thenOf a b) (thenOf a c)) refl refl
+    (λ s. simp (apply-then, apply-both))
+
+-- both is the greatest that is at most either
+pub both-comm : (a b : Effect) → bothOf a b ≡ bothOf b a
+unfolding bothOf
+both-comm a b =
+    canonical (bothOf a b) (bothOf b a) (both-normal a b) (both-normal b a) refl refl
+    (λ s. apply-both a b s ∙ lower-comm (applyOf a s) (applyOf b s) ∙ sym (apply-both b a s))
+
+pub both-left : (a b : Effect) → atMostOf (bothOf a b) a ≡ true
+both-left a b = at-most-complete (bothOf a b) a (both-normal a b) (λ s. rw (apply-both a b s) (lower-below (applyOf a s) (applyOf b s)))
+
+pub both-right : (a b : Effect) → atMostOf (bothOf a b) b ≡ true
+both-right a b = rw (both-comm a b) (both-left b a)
+
+pub both-greatest : (c a b : Effect) → normalOf c ≡ true → atMostOf c a ≡ true → atMostOf c b ≡ true → atMostOf c (bothOf a b) ≡ true
+both-greatest c a b n p q =
+    at-most-complete c (bothOf a b) n
+    (λ s. rw (apply-both a b s) (lower-greatest (applyOf c s) (applyOf a s) (applyOf b s) (at-most-sound c a p s) (at-most-sound c b q s)))
+
+-- nothing done changes nothing of a stock whose rights are words and whose counts are at most 255
+idle-same : (h : Held) → h .rights < 65536 → h .count ≤ 255 → applyOne idle h ≡ h
+unfolding applyOne idle
+idle-same h w c =
+    let n : (b : ℕ) → bit b (rightsAfter 0 65535 (h .rights)) ≡ bit b (h .rights) = λ b. elim (decLt b 16) [
+      | yes l ↦ rights-nothing b (h .rights) l
+      | no l ↦ omega (arith, bit-high 16 b (h .rights) w (omega arith), bit-high 16 b 65535 (omega arith) (omega arith), bit-after b 0 65535 (h .rights))
+    ] in
+    let e : countAfter 255 0 (h .count) ≡ h .count = omega (arith, after-nothing (h .count)) in
+    λ i. record { rights = bit-ext (rightsAfter 0 65535 (h .rights)) (h .rights) n i; count = e i }
+
+pub apply-nothing : (s : Stock) → SixHeld s → ((k : ℕ) → k < 6 → (heldAt s k .rights < 65536) × (heldAt s k .count ≤ 255)) → applyOf nothingDone s ≡ s
+unfolding applyOf nothingDone
+apply-nothing s v h =
+    ap stockOf (among-ext (λ k. applyOne idle (heldAt s k)) (heldAt s) (λ k l. idle-same (heldAt s k) (h k l .0) (h k l .1))) ∙ v

@@ -1,0 +1,11 @@
+pub mod Bools
+pub mod Count
+pub mod Order
+pub mod Bit
+pub mod Rights
+pub mod Single
+pub mod Six
+pub mod Laws
+pub mod Potential
+pub mod Coordinate
+pub mod Known

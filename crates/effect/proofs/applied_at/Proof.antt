@@ -1,0 +1,9 @@
+use borrow.Author.Needs.{needs}
+use Rattle.effect.proofs.applied_at.Statement.{statement}
+use Rattle.effect.proofs.applied_at.Tie as tie
+
+returns : tie.Need-returns
+returns c = cc
+
+pub applied-at-spec : {M : Type 1} → statement M
+applied-at-spec = tie.close (tie.spec (λ c κs. search needs) (λ c κs. search needs) (λ c κs. search needs) returns)

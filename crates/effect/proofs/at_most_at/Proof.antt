@@ -1,0 +1,9 @@
+use borrow.Author.Needs.{needs}
+use Rattle.effect.proofs.at_most_at.Statement.{statement}
+use Rattle.effect.proofs.at_most_at.Tie as tie
+
+returns : tie.Need-returns
+returns c = cc
+
+pub at-most-at-spec : {M : Type 1} → statement M
+at-most-at-spec = tie.close (tie.spec (λ c κs. search needs) (λ c κs. search needs) (λ c κs. search needs) returns)

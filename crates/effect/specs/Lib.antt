@@ -1,0 +1,4 @@
+pub mod Six
+pub mod Whole
+pub mod Meaning
+pub mod Coordinate

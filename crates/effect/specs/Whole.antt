@@ -1,0 +1,48 @@
+-- The operations on stocks and effects: at each type, those of `single`. A type above 5 is never covered, and to grant
+-- or draw it does nothing.
+use Prim.Native.Nat.{ℕ}
+use mathlib.Core.Bool.{Bool, true, false, _&&_}
+use lib.Dec.{ltb, eqb}
+use Rattle.single.specs.declared.One.{One}
+use Rattle.single.specs.Single.{normalOne, idle, drawn, granted, applyOne, thenOne, bothOne, atMostOne, heldAtMost, lowerHeld, coversHeld}
+use Rattle.effect.specs.declared.Stock.{Stock}
+use Rattle.effect.specs.declared.Effect.{Effect}
+use Rattle.effect.specs.Six.{allSix, heldAt, stockOf, oneAt, effectOf}
+
+unfoldable pub normalOf : Effect → Bool
+normalOf e = allSix (λ k. normalOne (oneAt e k))
+
+unfoldable pub nothingDone : Effect
+nothingDone = effectOf (λ k. idle)
+
+-- the effect x of type t, and nothing done to any other
+abbrev pub oneIf : Bool → One → One
+oneIf true x = x
+oneIf false x = idle
+
+unfoldable pub drawOf : ℕ → Effect
+drawOf t = effectOf (λ k. oneIf (eqb k t) drawn)
+
+unfoldable pub grantOf : ℕ → ℕ → ℕ → Effect
+grantOf t p m = effectOf (λ k. oneIf (eqb k t) (granted p m))
+
+unfoldable pub applyOf : Effect → Stock → Stock
+applyOf e s = stockOf (λ k. applyOne (oneAt e k) (heldAt s k))
+
+unfoldable pub thenOf : Effect → Effect → Effect
+thenOf a b = effectOf (λ k. thenOne (oneAt a k) (oneAt b k))
+
+unfoldable pub bothOf : Effect → Effect → Effect
+bothOf a b = effectOf (λ k. bothOne (oneAt a k) (oneAt b k))
+
+unfoldable pub atMostOf : Effect → Effect → Bool
+atMostOf a b = allSix (λ k. atMostOne (oneAt a k) (oneAt b k))
+
+unfoldable pub stockAtMostOf : Stock → Stock → Bool
+stockAtMostOf s t = allSix (λ k. heldAtMost (heldAt s k) (heldAt t k))
+
+unfoldable pub lowerOf : Stock → Stock → Stock
+lowerOf s t = stockOf (λ k. lowerHeld (heldAt s k) (heldAt t k))
+
+unfoldable pub coversOf : Stock → ℕ → ℕ → Bool
+coversOf s t p = ltb t 6 && coversHeld (heldAt s t) p

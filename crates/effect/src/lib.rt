@@ -1,0 +1,284 @@
+// Stocks and effects: six types, each with rights and a count.
+use single::Held;
+use single::One;
+ghost use mathlib.Core.Path.{_≡_};
+ghost use Prim.Native.Nat.{_<_};
+ghost use lib.Dec.{eqb};
+ghost use Rattle.single.specs.Single.{normalOne, applyOne, thenOne, bothOne, atMostOne, heldAtMost, lowerHeld};
+ghost use Rattle.effect.specs.Six.{allSix, among, heldAt, stockOf, oneAt, effectOf};
+ghost use Rattle.effect.specs.Whole.{normalOf, nothingDone, oneIf, drawOf, grantOf, applyOf, thenOf, bothOf, atMostOf, stockAtMostOf, lowerOf, coversOf};
+
+pub struct Stock {
+    pub rights: [u16; 6],
+    pub counts: [u16; 6],
+}
+
+pub struct Effect {
+    pub keepin: [u16; 6],
+    pub keepmax: [u16; 6],
+    pub cap: [u16; 6],
+    pub drop: [u16; 6],
+}
+
+fn held_at(s: Stock, k: usize) -> Held
+    requires { ⌜ k < 6 ⌝ }
+    ensures { λ r. ⌜ r ≡ heldAt s k ⌝ }
+{
+    Held {
+        rights: s.rights[k],
+        count: s.counts[k],
+    }
+}
+
+fn one_at(e: Effect, k: usize) -> One
+    requires { ⌜ k < 6 ⌝ }
+    ensures { λ r. ⌜ r ≡ oneAt e k ⌝ }
+{
+    One {
+        keepin: e.keepin[k],
+        keepmax: e.keepmax[k],
+        cap: e.cap[k],
+        drop: e.drop[k],
+    }
+}
+
+pub fn stock_of(p: Held, q: Held, r: Held, s: Held, t: Held, u: Held) -> Stock
+    ensures { λ x. ⌜ x ≡ stockOf (among p q r s t u) ⌝ }
+{
+    let a = [p.rights, q.rights, r.rights, s.rights, t.rights, u.rights];
+    let b = [p.count, q.count, r.count, s.count, t.count, u.count];
+    Stock {
+        rights: a,
+        counts: b,
+    }
+}
+
+pub fn effect_of(p: One, q: One, r: One, s: One, t: One, u: One) -> Effect
+    ensures { λ x. ⌜ x ≡ effectOf (among p q r s t u) ⌝ }
+{
+    let i = [p.keepin, q.keepin, r.keepin, s.keepin, t.keepin, u.keepin];
+    let m = [
+        p.keepmax,
+        q.keepmax,
+        r.keepmax,
+        s.keepmax,
+        t.keepmax,
+        u.keepmax,
+    ];
+    let c = [p.cap, q.cap, r.cap, s.cap, t.cap, u.cap];
+    let d = [p.drop, q.drop, r.drop, s.drop, t.drop, u.drop];
+    Effect {
+        keepin: i,
+        keepmax: m,
+        cap: c,
+        drop: d,
+    }
+}
+
+fn all_six(p: bool, q: bool, r: bool, s: bool, t: bool, u: bool) -> bool
+    ensures { λ x. ⌜ x ≡ allSix (among p q r s t u) ⌝ }
+{
+    p & (q & (r & (s & (t & u))))
+}
+
+fn normal_at(e: Effect, k: usize) -> bool
+    requires { ⌜ k < 6 ⌝ }
+    ensures { λ r. ⌜ r ≡ normalOne (oneAt e k) ⌝ }
+{
+    single::normal(one_at(e, k))
+}
+
+fn applied_at(e: Effect, s: Stock, k: usize) -> Held
+    requires { ⌜ k < 6 ⌝ }
+    ensures { λ r. ⌜ r ≡ applyOne (oneAt e k) (heldAt s k) ⌝ }
+{
+    single::apply(one_at(e, k), held_at(s, k))
+}
+
+fn then_at(a: Effect, b: Effect, k: usize) -> One
+    requires { ⌜ k < 6 ⌝ }
+    ensures { λ r. ⌜ r ≡ thenOne (oneAt a k) (oneAt b k) ⌝ }
+{
+    single::then(one_at(a, k), one_at(b, k))
+}
+
+fn both_at(a: Effect, b: Effect, k: usize) -> One
+    requires { ⌜ k < 6 ⌝ }
+    ensures { λ r. ⌜ r ≡ bothOne (oneAt a k) (oneAt b k) ⌝ }
+{
+    single::both(one_at(a, k), one_at(b, k))
+}
+
+fn at_most_at(a: Effect, b: Effect, k: usize) -> bool
+    requires { ⌜ k < 6 ⌝ }
+    ensures { λ r. ⌜ r ≡ atMostOne (oneAt a k) (oneAt b k) ⌝ }
+{
+    single::at_most(one_at(a, k), one_at(b, k))
+}
+
+fn stock_at_most_at(s: Stock, t: Stock, k: usize) -> bool
+    requires { ⌜ k < 6 ⌝ }
+    ensures { λ r. ⌜ r ≡ heldAtMost (heldAt s k) (heldAt t k) ⌝ }
+{
+    single::stock_at_most(held_at(s, k), held_at(t, k))
+}
+
+fn lower_at(s: Stock, t: Stock, k: usize) -> Held
+    requires { ⌜ k < 6 ⌝ }
+    ensures { λ r. ⌜ r ≡ lowerHeld (heldAt s k) (heldAt t k) ⌝ }
+{
+    single::lower(held_at(s, k), held_at(t, k))
+}
+
+// x where the type is hit, else nothing done.
+fn one_if(hit: bool, x: One) -> One
+    ensures { λ r. ⌜ r ≡ oneIf hit x ⌝ }
+{
+    if hit {
+        return x;
+    }
+    single::nothing_done()
+}
+
+// The effect x of type t.
+fn only(t: usize, x: One) -> Effect
+    ensures { λ r. ⌜ r ≡ effectOf (λ k. oneIf (eqb k t) x) ⌝ }
+{
+    effect_of(
+        one_if(0 == t, x),
+        one_if(1 == t, x),
+        one_if(2 == t, x),
+        one_if(3 == t, x),
+        one_if(4 == t, x),
+        one_if(5 == t, x),
+    )
+}
+
+pub fn nothing_done() -> Effect
+    ensures { λ r. ⌜ r ≡ nothingDone ⌝ }
+{
+    let x = single::nothing_done();
+    effect_of(x, x, x, x, x, x)
+}
+
+// One is taken of type t.
+pub fn draw(t: usize) -> Effect
+    ensures { λ r. ⌜ r ≡ drawOf t ⌝ }
+{
+    only(t, single::draw())
+}
+
+// Rights and count of type t are replaced.
+pub fn grant(t: usize, rights: u16, count: u16) -> Effect
+    ensures { λ r. ⌜ r ≡ grantOf t rights count ⌝ }
+{
+    only(t, single::grant(rights, count))
+}
+
+// The effect is in normal form.
+pub fn normal(e: Effect) -> bool
+    ensures { λ r. ⌜ r ≡ normalOf e ⌝ }
+{
+    all_six(
+        normal_at(e, 0),
+        normal_at(e, 1),
+        normal_at(e, 2),
+        normal_at(e, 3),
+        normal_at(e, 4),
+        normal_at(e, 5),
+    )
+}
+
+// The stock that an effect leaves of a stock.
+pub fn apply(e: Effect, s: Stock) -> Stock
+    ensures { λ r. ⌜ r ≡ applyOf e s ⌝ }
+{
+    stock_of(
+        applied_at(e, s, 0),
+        applied_at(e, s, 1),
+        applied_at(e, s, 2),
+        applied_at(e, s, 3),
+        applied_at(e, s, 4),
+        applied_at(e, s, 5),
+    )
+}
+
+// The first effect, then the second.
+pub fn then(a: Effect, b: Effect) -> Effect
+    ensures { λ r. ⌜ r ≡ thenOf a b ⌝ }
+{
+    effect_of(
+        then_at(a, b, 0),
+        then_at(a, b, 1),
+        then_at(a, b, 2),
+        then_at(a, b, 3),
+        then_at(a, b, 4),
+        then_at(a, b, 5),
+    )
+}
+
+// The smaller of what two effects leave.
+pub fn both(a: Effect, b: Effect) -> Effect
+    ensures { λ r. ⌜ r ≡ bothOf a b ⌝ }
+{
+    effect_of(
+        both_at(a, b, 0),
+        both_at(a, b, 1),
+        both_at(a, b, 2),
+        both_at(a, b, 3),
+        both_at(a, b, 4),
+        both_at(a, b, 5),
+    )
+}
+
+// One effect leaves at most what another leaves, of every stock.
+pub fn at_most(a: Effect, b: Effect) -> bool
+    ensures { λ r. ⌜ r ≡ atMostOf a b ⌝ }
+{
+    all_six(
+        at_most_at(a, b, 0),
+        at_most_at(a, b, 1),
+        at_most_at(a, b, 2),
+        at_most_at(a, b, 3),
+        at_most_at(a, b, 4),
+        at_most_at(a, b, 5),
+    )
+}
+
+// One stock is at most another, at every type.
+pub fn stock_at_most(s: Stock, t: Stock) -> bool
+    ensures { λ r. ⌜ r ≡ stockAtMostOf s t ⌝ }
+{
+    all_six(
+        stock_at_most_at(s, t, 0),
+        stock_at_most_at(s, t, 1),
+        stock_at_most_at(s, t, 2),
+        stock_at_most_at(s, t, 3),
+        stock_at_most_at(s, t, 4),
+        stock_at_most_at(s, t, 5),
+    )
+}
+
+// The smaller of two stocks, right by right and count by count.
+pub fn lower(s: Stock, t: Stock) -> Stock
+    ensures { λ r. ⌜ r ≡ lowerOf s t ⌝ }
+{
+    stock_of(
+        lower_at(s, t, 0),
+        lower_at(s, t, 1),
+        lower_at(s, t, 2),
+        lower_at(s, t, 3),
+        lower_at(s, t, 4),
+        lower_at(s, t, 5),
+    )
+}
+
+// The stock has every right drawn of type t, and a count of at least 1.
+pub fn covers(s: Stock, t: usize, rights: u16) -> bool
+    ensures { λ r. ⌜ r ≡ coversOf s t rights ⌝ }
+{
+    if t < 6 {
+        return single::covers(held_at(s, t), rights);
+    }
+    false
+}

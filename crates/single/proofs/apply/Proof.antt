@@ -1,0 +1,11 @@
+use borrow.Author.Needs.{needs}
+use Rattle.single.specs.Single.{applyOne}
+use Rattle.single.proofs.apply.Statement.{statement}
+use Rattle.single.proofs.apply.Tie as tie
+
+returns : tie.Need-returns
+unfolding applyOne
+returns c = cc
+
+pub apply-spec : {M : Type 1} → statement M
+apply-spec = tie.close (tie.spec (λ c κs. search needs) (λ c κs. search needs) returns)

@@ -1,0 +1,11 @@
+use borrow.Author.Needs.{needs}
+use Rattle.single.specs.Single.{atMostOne}
+use Rattle.single.proofs.at_most.Statement.{statement}
+use Rattle.single.proofs.at_most.Tie as tie
+
+returns : tie.Need-returns
+unfolding atMostOne
+returns c = cc
+
+pub at-most-spec : {M : Type 1} → statement M
+at-most-spec = tie.close (tie.spec (λ c κs. search needs) (λ c κs. search needs) (λ c κs. search needs) returns)

@@ -1,0 +1,11 @@
+use borrow.Author.Needs.{needs}
+use Rattle.single.specs.Single.{bothOne}
+use Rattle.single.proofs.both.Statement.{statement}
+use Rattle.single.proofs.both.Tie as tie
+
+returns : tie.Need-returns
+unfolding bothOne
+returns c = cc
+
+pub both-spec : {M : Type 1} → statement M
+both-spec = tie.close (tie.spec (λ c κs. search needs) (λ c κs. search needs) (λ c κs. search needs) returns)

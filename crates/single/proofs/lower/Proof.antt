@@ -1,0 +1,11 @@
+use borrow.Author.Needs.{needs}
+use Rattle.single.specs.Single.{lowerHeld}
+use Rattle.single.proofs.lower.Statement.{statement}
+use Rattle.single.proofs.lower.Tie as tie
+
+returns : tie.Need-returns
+unfolding lowerHeld
+returns c = cc
+
+pub lower-spec : {M : Type 1} → statement M
+lower-spec = tie.close (tie.spec (λ c κs. search needs) returns)

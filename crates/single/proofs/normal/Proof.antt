@@ -1,0 +1,11 @@
+use borrow.Author.Needs.{needs}
+use Rattle.single.specs.Single.{normalOne}
+use Rattle.single.proofs.normal.Statement.{statement}
+use Rattle.single.proofs.normal.Tie as tie
+
+returns : tie.Need-returns
+unfolding normalOne
+returns c = cc
+
+pub normal-spec : {M : Type 1} → statement M
+normal-spec = tie.close (tie.spec (λ c κs. search needs) (λ c κs. search needs) returns)

@@ -1,0 +1,16 @@
+use borrow.Author.Needs.{needs}
+use Rattle.single.specs.Number.{countAfter}
+use Rattle.single.proofs.Cases.{left-none, left-some}
+use Rattle.single.proofs.number.count_after.Statement.{statement}
+use Rattle.single.proofs.number.count_after.Tie as tie
+
+returns : tie.Need-returns
+unfolding countAfter
+returns c = cc (left-none (c .before .before .args .c) _ (c .before .before .args .r) (c .before .if1 .taken))
+
+returns-2 : tie.Need-returns-2
+unfolding countAfter
+returns-2 c = cc (left-some (c .before .before .before .before .args .c) _ (c .before .before .before .before .args .r) (c .before .before .before .if1 .left))
+
+pub count-after-spec : {M : Type 1} → statement M
+count-after-spec = tie.close (tie.spec (λ c κs. search needs) returns (λ c κs. search needs) (λ c κs. search needs) (λ c κs. search needs) returns-2)

@@ -1,0 +1,11 @@
+use borrow.Author.Needs.{needs}
+use Rattle.single.specs.Single.{heldAtMost}
+use Rattle.single.proofs.stock_at_most.Statement.{statement}
+use Rattle.single.proofs.stock_at_most.Tie as tie
+
+returns : tie.Need-returns
+unfolding heldAtMost
+returns c = cc
+
+pub stock-at-most-spec : {M : Type 1} → statement M
+stock-at-most-spec = tie.close (tie.spec (λ c κs. search needs) (λ c κs. search needs) returns)

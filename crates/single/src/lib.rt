@@ -1,0 +1,140 @@
+// Stocks and effects of one type.
+mod number;
+
+ghost use mathlib.Core.Path.{_≡_};
+ghost use Rattle.single.specs.Single.{normalForm, normalOne, idle, drawn, granted, applyOne, thenOne, bothOne, atMostOne, heldAtMost, lowerHeld, coversHeld};
+
+// What a stock holds of one type.
+pub struct Held {
+    pub rights: u16,
+    pub count: u16,
+}
+
+// What an effect does to one type.
+pub struct One {
+    pub keepin: u16,
+    pub keepmax: u16,
+    pub cap: u16,
+    pub drop: u16,
+}
+
+pub fn normal_form(x: One) -> One
+    ensures { λ r. ⌜ r ≡ normalForm x ⌝ }
+{
+    One {
+        keepin: x.keepin & x.keepmax,
+        keepmax: x.keepmax,
+        cap: number::smaller(x.cap, 255),
+        drop: number::norm_drop(x.cap, x.drop),
+    }
+}
+
+pub fn normal(x: One) -> bool
+    ensures { λ r. ⌜ r ≡ normalOne x ⌝ }
+{
+    let i = number::within_of(x.keepin, x.keepmax);
+    let c = x.cap <= 255;
+    let d = number::norm_drop(x.cap, x.drop) == x.drop;
+    i & (c & d)
+}
+
+pub fn nothing_done() -> One
+    ensures { λ r. ⌜ r ≡ idle ⌝ }
+{
+    One {
+        keepin: 0,
+        keepmax: 65535,
+        cap: 255,
+        drop: 0,
+    }
+}
+
+pub fn draw() -> One
+    ensures { λ r. ⌜ r ≡ drawn ⌝ }
+{
+    One {
+        keepin: 0,
+        keepmax: 65535,
+        cap: 255,
+        drop: 1,
+    }
+}
+
+pub fn grant(rights: u16, count: u16) -> One
+    ensures { λ r. ⌜ r ≡ granted rights count ⌝ }
+{
+    normal_form(One {
+        keepin: rights,
+        keepmax: rights,
+        cap: count,
+        drop: 256,
+    })
+}
+
+// What the effect leaves.
+pub fn apply(x: One, h: Held) -> Held
+    ensures { λ r. ⌜ r ≡ applyOne x h ⌝ }
+{
+    Held {
+        rights: number::rights_after(x.keepin, x.keepmax, h.rights),
+        count: number::count_after(x.cap, x.drop, h.count),
+    }
+}
+
+// The first effect, then the second.
+pub fn then(x: One, y: One) -> One
+    ensures { λ r. ⌜ r ≡ thenOne x y ⌝ }
+{
+    normal_form(One {
+        keepin: number::rights_after(y.keepin, y.keepmax, x.keepin),
+        keepmax: number::rights_after(y.keepin, y.keepmax, x.keepmax),
+        cap: number::cap_then(x.cap, y.cap, y.drop),
+        drop: number::sum_drop(x.drop, y.drop),
+    })
+}
+
+// The smaller of what two effects leave.
+pub fn both(x: One, y: One) -> One
+    ensures { λ r. ⌜ r ≡ bothOne x y ⌝ }
+{
+    normal_form(One {
+        keepin: x.keepin & y.keepin,
+        keepmax: x.keepmax & y.keepmax,
+        cap: number::smaller(x.cap, y.cap),
+        drop: number::larger_drop(x.drop, y.drop),
+    })
+}
+
+pub fn at_most(x: One, y: One) -> bool
+    ensures { λ r. ⌜ r ≡ atMostOne x y ⌝ }
+{
+    let i = number::within_of(x.keepin, y.keepin);
+    let m = number::within_of(x.keepmax, y.keepmax);
+    let c = number::count_at_most(x.cap, x.drop, y.cap, y.drop);
+    i & (m & c)
+}
+
+pub fn stock_at_most(h: Held, g: Held) -> bool
+    ensures { λ r. ⌜ r ≡ heldAtMost h g ⌝ }
+{
+    let i = number::within_of(h.rights, g.rights);
+    let c = number::smaller(h.count, 255) <= g.count;
+    i & c
+}
+
+pub fn lower(h: Held, g: Held) -> Held
+    ensures { λ r. ⌜ r ≡ lowerHeld h g ⌝ }
+{
+    Held {
+        rights: h.rights & g.rights,
+        count: number::smaller(h.count, g.count),
+    }
+}
+
+pub fn covers(h: Held, rights: u16) -> bool
+    ensures { λ r. ⌜ r ≡ coversHeld h rights ⌝ }
+{
+    let i = number::within_of(rights, h.rights);
+    let c = h.count >= 1;
+    i & c
+}
