@@ -145,7 +145,7 @@ module _ (S : Setting) where
         let o = exits-hit m 0 x i (frame c m (repeats c - j) ∷ σ) (h .brought) in
         record {
           brought = o .brought;
-          how = rw (← flow-inside c n′ f .1) (more (join G D (arrive G D (h .how)) (o .how .3)) (back (o .how .1) f));
+          how = rw (← flow-inside c n′ f .2) (more (join G D (arrive G D (h .how)) (o .how .3)) (back (o .how .1) f));
           low = omega (arith, o .low, apply-mono (exit m 0) i (h .brought) (apply (rounds-of S T c m j) s) (h .low), after-suc S T c m j i s);
         }
 
@@ -167,16 +167,16 @@ module _ (S : Setting) where
         let h = nodes-hit n nn i σ s in
         record {
           brought = act n (h .brought);
-          how = rw (← flow-inside n n′ f .1) (more (h .how) (along p f));
+          how = rw (← flow-inside n n′ f .2) (more (h .how) (along p f));
           low = omega (arith, act-step n i (h .brought), apply-mono (step n) i (h .brought) (apply (node n) s) (h .low), apply-then (node n) (step n) i s);
         }
     node-asked (rule4 {n} {e} {h = d} t nn r) i σ s =
         let h = nodes-hit n nn i σ s in
-        record { brought = h .brought; how = rw (← catch-inside n e d r .1) (more (h .how) (caught t r)); low = h .low }
+        record { brought = h .brought; how = rw (← catch-inside n e d r .3) (more (h .how) (caught t r)); low = h .low }
     node-asked (rule7 ca nc l x f k k≥1 k≤) i σ s = all-rounds ca nc l x f k k≥1 k≤ i σ s
     node-asked (rule9 {c} {e = e} {h = d} ca nc l x r j y) i σ s =
         let h = thrown ca nc l x j y i σ s in
-        record { brought = h .brought; how = rw (← catch-inside c e d r .1) (more (h .how) (handled r)); low = h .low }
+        record { brought = h .brought; how = rw (← catch-inside c e d r .3) (more (h .how) (handled r)); low = h .low }
 
     pub exit-asked : {r m x : ℕ} {e : Effect} → AskExit W G step opening T r m x e → ExitHit m x e
     exit-asked (rule5 {n} r nn) i σ s =

@@ -110,22 +110,29 @@ module _ (S : Setting) where
       exits-under = λ m x lt y. (exit-under m x lt y first (T .stock 0) .0, λ s i. exit-under m x lt y i s .1);
     }
 
-  -- An attained sheet is the greatest that obeys the rules.
-  pub greatest : (T : Sheet W) → Attained S T → Greatest W G step opening T
-  greatest T A U O = under T U A O
+  -- An attained sheet that obeys the rules is the greatest that does.
+  pub greatest : (T : Sheet W) → Obeys W G step opening T → Attained S T → Greatest W G step opening T
+  greatest T O A = record { obeys = O; above-all = λ U P. under T U A P }
 
-  -- Two sheets that obey and are the greatest have the same marks, and at each mark the same stocks and effects.
+  -- the same marks, and at each mark the same stocks and effects
   pub record Same (T U : Sheet W) : Type 0 where
-    pub methods-same : (m : ℕ) → T .Called m → U .Called m × ((i : Coord) → at i (T .stock m) ≡ at i (U .stock m))
-    pub nodes-same : (n : ℕ) → n < nodes → T .Node n → U .Node n × ((s : Stock) (i : Coord) → at i (apply (T .node n) s) ≡ at i (apply (U .node n) s))
-    pub exits-same : (m x : ℕ) → m < methods → T .Exit m x → U .Exit m x × ((s : Stock) (i : Coord) → at i (apply (T .exit m x) s) ≡ at i (apply (U .exit m x) s))
+    pub methods-same : (m : ℕ) → T .Called m ↔ U .Called m
+    pub nodes-same : (n : ℕ) → n < nodes → T .Node n ↔ U .Node n
+    pub exits-same : (m x : ℕ) → m < methods → T .Exit m x ↔ U .Exit m x
+    pub stocks-same : (m : ℕ) → T .Called m → (i : Coord) → at i (T .stock m) ≡ at i (U .stock m)
+    pub node-same : (n : ℕ) → n < nodes → T .Node n → (s : Stock) (i : Coord) → at i (apply (T .node n) s) ≡ at i (apply (U .node n) s)
+    pub exit-same : (m x : ℕ) → m < methods → T .Exit m x → (s : Stock) (i : Coord) → at i (apply (T .exit m x) s) ≡ at i (apply (U .exit m x) s)
 
-  pub only-one : (T U : Sheet W) → Obeys W G step opening T → Greatest W G step opening T → Obeys W G step opening U → Greatest W G step opening U → Same T U
-  only-one T U O A P B =
-      let low = A U P in
-      let high = B T O in
+  -- There is only one greatest sheet.
+  pub only-one : (T U : Sheet W) → Greatest W G step opening T → Greatest W G step opening U → Same T U
+  only-one T U A B =
+      let low = A .above-all U (B .obeys) in
+      let high = B .above-all T (A .obeys) in
       record {
-        methods-same = λ m y. let u = low .methods-under m y in (u .0, λ i. le-antisymm (high .methods-under m (u .0) .1 i) (u .1 i));
-        nodes-same = λ n lt y. let u = low .nodes-under n lt y in (u .0, λ s i. le-antisymm (high .nodes-under n lt (u .0) .1 s i) (u .1 s i));
-        exits-same = λ m x lt y. let u = low .exits-under m x lt y in (u .0, λ s i. le-antisymm (high .exits-under m x lt (u .0) .1 s i) (u .1 s i));
+        methods-same = λ m. (λ y. low .methods-under m y .0, λ y. high .methods-under m y .0);
+        nodes-same = λ n lt. (λ y. low .nodes-under n lt y .0, λ y. high .nodes-under n lt y .0);
+        exits-same = λ m x lt. (λ y. low .exits-under m x lt y .0, λ y. high .exits-under m x lt y .0);
+        stocks-same = λ m y i. let u = low .methods-under m y in le-antisymm (high .methods-under m (u .0) .1 i) (u .1 i);
+        node-same = λ n lt y s i. let u = low .nodes-under n lt y in le-antisymm (high .nodes-under n lt (u .0) .1 s i) (u .1 s i);
+        exit-same = λ m x lt y s i. let u = low .exits-under m x lt y in le-antisymm (high .exits-under m x lt (u .0) .1 s i) (u .1 s i);
       }

@@ -68,6 +68,7 @@ formed = record {
   catch-inside = λ a e b h. absurd h;
   calls-inside = calls-home;
   some-repeats = λ c h. omega arith;
+  eight-exceptions = λ n e h. absurd h;
 }
   where
     inside-home : (n : ℕ) → n < 4 → home n < 2
@@ -80,9 +81,9 @@ formed = record {
     door-home (suc zero) h = (omega arith, refl)
     door-home (suc (suc m)) h = absurd (omega arith)
 
-    flow-home : (a b : ℕ) → Flows a b → (b < 4) × (home a ≡ home b)
-    flow-home a b f01 = (omega arith, refl)
-    flow-home a b f23 = (omega arith, refl)
+    flow-home : (a b : ℕ) → Flows a b → (a < 4) × (b < 4) × (home a ≡ home b)
+    flow-home a b f01 = (omega arith, omega arith, refl)
+    flow-home a b f23 = (omega arith, omega arith, refl)
 
     returns-not : {n : ℕ} → (n ≡ 1 → ⊥) → (n ≡ 3 → ⊥) → (n ≡ 1) ⊎ (n ≡ 3) → ⊥
     returns-not p q (inl e) = p e

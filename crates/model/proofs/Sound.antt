@@ -161,7 +161,7 @@ module _ (S : Setting) (T : Sheet (S .W)) where
           record {
             marked = ask .0;
             base = h .base;
-            good = rw (← flow-inside n n′ f .1) (h .good);
+            good = rw (← flow-inside n n′ f .2) (h .good);
             holds = λ i. omega (arith, ask .1 (h .base) i, apply-then (node n) (step n) i (h .base), apply-mono (step n) i (apply (node n) (h .base)) s (h .holds i), act-step n i s);
           }
       keep (enter {c} {m} k l) h = entered (calls-inside c m l .1) (good-enter h k l)  -- rules 2 and 8
@@ -175,7 +175,7 @@ module _ (S : Setting) (T : Sheet (S .W)) where
           record {
             marked = ask .0;
             base = g .caller;
-            good = rw (← flow-inside c n′ f .1) (g .caller-good);
+            good = rw (← flow-inside c n′ f .2) (g .caller-good);
             holds = λ i. le-trans (ask .1 (g .caller) i) (o .holds i);
           }
       keep (caught {n} {e} {h = d} t r′) h =  -- rule 4
@@ -183,7 +183,7 @@ module _ (S : Setting) (T : Sheet (S .W)) where
           record {
             marked = ask .0;
             base = h .base;
-            good = rw (← catch-inside n e d r′ .1) (h .good);
+            good = rw (← catch-inside n e d r′ .3) (h .good);
             holds = λ i. le-trans (ask .1 (h .base) i) (h .holds i);
           }
       keep (leaves {n} {e} t u) h =  -- rule 6
@@ -202,7 +202,7 @@ module _ (S : Setting) (T : Sheet (S .W)) where
           record {
             marked = ask .0;
             base = g .caller;
-            good = rw (← catch-inside c e d r′ .1) (g .caller-good);
+            good = rw (← catch-inside c e d r′ .3) (g .caller-good);
             holds = λ i. le-trans (ask .1 (g .caller) i) (o .holds i);
           }
       keep (passes {c = c} u) h =  -- rule 10

@@ -2,7 +2,7 @@
 use mathlib.Core.List.{List, [], _∷_}
 use Prim.Native.Nat.{ℕ, _-_, _<_}
 
--- What the six tables say. A method has its entry node, a node its method and, where it is a call, its repeats.
+-- What the first five tables say. A method has its entry node, a node its method and, where it is a call, its repeats.
 pub record Graph : Type 1 where
   pub methods : ℕ
   pub nodes : ℕ
@@ -41,6 +41,8 @@ module _ {Stock : Type 0} (G : Graph) (D : Doing Stock) where
   open Graph G using (entry, repeats, Goes, Call, Return, Throw, Flow, Calls, Catch)
   open Doing D using (act, Covers)
 
+  -- Where no step fits, with no caller or no row to follow, the run ends. Each exception kind stands alone. A caller that an exception or
+  -- a return passes is not arrived at again: no step leads to it.
   pub data Step : Config Stock → Config Stock → Type 0 where
     -- Plain, grant and draw go along any flow row.
     along : {n n′ : ℕ} {σ : List Frame} {s : Stock} → Goes n → Flow n n′ → Step (At n σ s) (At n′ σ (act n s))

@@ -1,4 +1,1 @@
 // Nothing runs here: the crate is the machine and the rules of specs/, and the theorems of proofs/ that join them.
-pub fn nothing_to_run() -> u8 {
-    0
-}
