@@ -1,0 +1,30 @@
+-- The packed number determines number and place.
+use Prim.Native.Nat.{_/_, _%_, _<_}
+use mathlib.Core.Path.{_≡_}
+use native.Mathlib.Omega.{arith}
+use Rattle.answer.specs.declared.Answer.{Answer}
+use Rattle.answer.specs.declared.Answer.the-variants.{Pass, TooShort, BadCount, BadLength, BadEntry, BadNode, BadFlow, BadCall, BadCatch, BadOpening, BadSheet, BadBlock, Broken, Overdrawn}
+use Rattle.answer.specs.Number.{numberOf, placeOf, packedOf}
+
+pub number-small : (a : Answer) → numberOf a < 256
+number-small Pass = omega arith
+number-small TooShort = omega arith
+number-small (BadCount i) = omega arith
+number-small BadLength = omega arith
+number-small (BadEntry k) = omega arith
+number-small (BadNode k) = omega arith
+number-small (BadFlow k) = omega arith
+number-small (BadCall k) = omega arith
+number-small (BadCatch k) = omega arith
+number-small (BadOpening k) = omega arith
+number-small BadSheet = omega arith
+number-small (BadBlock w) = omega arith
+number-small (Broken r) = omega arith
+number-small (Overdrawn n) = omega arith
+
+pub number-unpacked : (a : Answer) → packedOf a % 256 ≡ numberOf a
+number-unpacked a = omega (arith, number-small a)
+
+-- a place has 24 bits
+pub place-unpacked : (a : Answer) → placeOf a < 16777216 → packedOf a / 65536 % 16777216 ≡ placeOf a
+place-unpacked a h = omega (arith, number-small a)

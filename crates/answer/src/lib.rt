@@ -1,0 +1,69 @@
+// What comes back: one case for each number, with its place.
+ghost use mathlib.Core.Path.{_≡_};
+ghost use Rattle.answer.specs.Number.{numberOf, placeOf, packedOf};
+
+pub enum Answer {
+    Pass,
+    TooShort,
+    BadCount(u16),
+    BadLength,
+    BadEntry(u16),
+    BadNode(u16),
+    BadFlow(u16),
+    BadCall(u16),
+    BadCatch(u16),
+    BadOpening(u16),
+    BadSheet,
+    BadBlock(u16),
+    Broken(u16),
+    Overdrawn(u16),
+}
+
+pub fn number(a: Answer) -> u16
+    ensures { λ r. ⌜ r ≡ numberOf a ⌝ }
+{
+    match a {
+        Answer::Pass => 0,
+        Answer::TooShort => 1,
+        Answer::BadCount(_) => 2,
+        Answer::BadLength => 3,
+        Answer::BadEntry(_) => 4,
+        Answer::BadNode(_) => 5,
+        Answer::BadFlow(_) => 6,
+        Answer::BadCall(_) => 7,
+        Answer::BadCatch(_) => 8,
+        Answer::BadOpening(_) => 9,
+        Answer::BadSheet => 10,
+        Answer::BadBlock(_) => 11,
+        Answer::Broken(_) => 12,
+        Answer::Overdrawn(_) => 13,
+    }
+}
+
+pub fn place(a: Answer) -> u32
+    ensures { λ r. ⌜ r ≡ placeOf a ⌝ }
+{
+    match a {
+        Answer::Pass => 0,
+        Answer::TooShort => 0,
+        Answer::BadCount(i) => i as u32,
+        Answer::BadLength => 0,
+        Answer::BadEntry(k) => k as u32,
+        Answer::BadNode(k) => k as u32,
+        Answer::BadFlow(k) => k as u32,
+        Answer::BadCall(k) => k as u32,
+        Answer::BadCatch(k) => k as u32,
+        Answer::BadOpening(k) => k as u32,
+        Answer::BadSheet => 0,
+        Answer::BadBlock(w) => w as u32,
+        Answer::Broken(r) => r as u32,
+        Answer::Overdrawn(n) => n as u32,
+    }
+}
+
+// The answer in one number, as the C face gives it. Its type and line are 0, so two fields are enough.
+pub fn packed(a: Answer) -> u64
+    ensures { λ r. ⌜ r ≡ packedOf a ⌝ }
+{
+    number(a) as u64 + 65536 * (place(a) as u64)
+}

@@ -1,0 +1,14 @@
+use borrow.Author.Needs.{needs}
+use Rattle.formed.proofs.content_fits.Statement.{statement}
+use Rattle.formed.proofs.content_fits.Tie as tie
+
+returns : tie.Need-returns
+returns c = rw (c .before .before .if1 .taken) (cc)
+
+returns-2 : tie.Need-returns-2
+returns-2 c = rw (c .before .before .if1 .left) (cc)
+
+pub content-fits-spec : {M : Type 1} → statement M
+content-fits-spec =
+    tie.close
+    (tie.spec (λ c κs. search needs) (λ c κs. search needs) returns (λ c κs. search needs) (λ c κs. search needs) returns-2)

@@ -1,0 +1,54 @@
+-- A file that passes: no test applies to it.
+use mathlib.Core.Path.{_≡_, refl, ap}
+use mathlib.Core.Bool.{Bool, true, false, cond}
+use mathlib.Core.List.{List}
+use Prim.Native.Nat.{ℕ, _<_, _≤_}
+use native.Mathlib.Omega.{arith}
+use lib.ListN.{length}
+use lib.Dec.{ltb, lit<}
+use borrow.Author.Tests.{ltb-false}
+use Rattle.words.specs.Lowest.{lowest}
+use Rattle.words.proofs.Lowest.{NoneBelow, is-lowest}
+use Rattle.answer.specs.declared.Answer.{Answer}
+use Rattle.answer.specs.declared.Answer.the-variants.{Pass, TooShort, BadCount, BadLength, BadEntry, BadNode, BadFlow, BadCall, BadCatch, BadOpening}
+use Rattle.answer.specs.Number.{numberOf}
+use Rattle.tables.specs.declared.Tables.{Tables}
+use Rattle.refuse.specs.Bad.{countBad, lengthBad, entryBad, nodeBad, flowBad, callBad, catchBad, openingBad}
+use Rattle.graph.specs.Judge.{refused, judgeRows, judgeIn}
+
+-- a refusal does not pass, so what comes next does
+cond-pass : (b : Bool) (refusal next : Answer) → cond b refusal next ≡ Pass → 0 < numberOf refusal → (b ≡ false) × (next ≡ Pass)
+cond-pass true refusal next h l = let z : numberOf refusal ≡ 0 = ap numberOf h in absurd (omega arith)
+cond-pass false refusal next h l = (refl, h)
+
+rows-pass : (bad : ℕ → Bool) (n : ℕ) (answer : ℕ → Answer) (next : Answer) → refused bad n answer next ≡ Pass → ((k : ℕ) → 0 < numberOf (answer k)) → NoneBelow bad n × (next ≡ Pass)
+rows-pass bad n answer next h l =
+    let w = cond-pass (ltb (lowest bad n) n) (answer (lowest bad n)) next h (l (lowest bad n)) in
+    let u : n ≤ lowest bad n = ltb-false (lowest bad n) n (w .0) in
+    (λ k v. is-lowest bad n .before k (omega arith), w .1)
+
+-- what holds of a file whose trailer says t and that passes
+pub record Judged (f : List ℕ) (t : Tables) : Type 0 where
+  pub long : 14 ≤ length f
+  pub counts : NoneBelow (countBad f) 6
+  pub whole : lengthBad f t ≡ false
+  pub entries : NoneBelow (entryBad f t) (t .methods)
+  pub nodes : NoneBelow (nodeBad f t) (t .nodes)
+  pub flows : NoneBelow (flowBad f t) (t .flows)
+  pub calls : NoneBelow (callBad f t) (t .calls)
+  pub catches : NoneBelow (catchBad f t) (t .catches)
+  pub opening : NoneBelow (openingBad f t) (t .types)
+
+pub judged : (f : List ℕ) (t : Tables) → judgeIn f t ≡ Pass → Judged f t
+unfolding judgeIn judgeRows
+judged f t h =
+    let w1 = cond-pass _ TooShort _ h (lit< tt) in
+    let w2 = rows-pass _ _ BadCount _ (w1 .1) (λ k. lit< tt) in
+    let w3 = cond-pass _ BadLength _ (w2 .1) (lit< tt) in
+    let w4 = rows-pass _ _ BadEntry _ (w3 .1) (λ k. lit< tt) in
+    let w5 = rows-pass _ _ BadNode _ (w4 .1) (λ k. lit< tt) in
+    let w6 = rows-pass _ _ BadFlow _ (w5 .1) (λ k. lit< tt) in
+    let w7 = rows-pass _ _ BadCall _ (w6 .1) (λ k. lit< tt) in
+    let w8 = rows-pass _ _ BadCatch _ (w7 .1) (λ k. lit< tt) in
+    let w9 = rows-pass _ _ BadOpening _ (w8 .1) (λ k. lit< tt) in
+    record { long = ltb-false (length f) 14 (w1 .0); counts = w2 .0; whole = w3 .0; entries = w4 .0; nodes = w5 .0; flows = w6 .0; calls = w7 .0; catches = w8 .0; opening = w9 .0 }

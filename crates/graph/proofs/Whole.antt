@@ -1,0 +1,67 @@
+-- The graph of a file that passes is well formed.
+use mathlib.Core.Path.{_≡_}
+use mathlib.Core.List.{List}
+use Prim.Native.Nat.{ℕ, _<_, _≤_}
+use native.Mathlib.Omega.{arith}
+use lib.ListN.{length}
+use lib.Dec.{lit<}
+use Rattle.answer.specs.declared.Answer.the-variants.{Pass}
+use Rattle.model.proofs.Formed.{Formed}
+use Rattle.tables.specs.declared.Tables.{Tables}
+use Rattle.tables.specs.Trailer.{trailer, tablesOf}
+use Rattle.graph.specs.Judge.{judgeOf}
+use Rattle.graph.specs.Graph.{graphOf}
+use Rattle.graph.proofs.Judged.{judged}
+use Rattle.tables.proofs.Counts.{methods-are, nodes-are, flows-are, calls-are, catches-are, types-are, end-is}
+use Rattle.refuse.specs.Bad.{fewest, most}
+use Rattle.refuse.proofs.Fit.{count-fit, length-fit, entry-fit, node-fit, flow-fit, call-fit, catch-fit}
+
+-- the limits of the counts
+pub record Limits (t : Tables) : Type 0 where
+  pub some-method : 0 < t .methods
+  pub methods : t .methods ≤ 64
+  pub some-node : 0 < t .nodes
+  pub nodes : t .nodes ≤ 512
+  pub flows : t .flows ≤ 1024
+  pub calls : t .calls ≤ 512
+  pub catches : t .catches ≤ 512
+  pub some-type : 0 < t .types
+  pub types : t .types ≤ 6
+
+pub limits : (f : List ℕ) → judgeOf f ≡ Pass → Limits (tablesOf f)
+limits f h =
+    let c : (i : ℕ) → i < 6 → (fewest i ≤ trailer f i) × (trailer f i ≤ most i) = λ i l. count-fit f (tablesOf f) i (judged f (tablesOf f) h .counts i l) in
+    record {
+      some-method = rw (methods-are f) (c 0 (lit< tt) .0);
+      methods = rw (methods-are f) (c 0 (lit< tt) .1);
+      some-node = rw (nodes-are f) (c 1 (lit< tt) .0);
+      nodes = rw (nodes-are f) (c 1 (lit< tt) .1);
+      flows = rw (flows-are f) (c 2 (lit< tt) .1);
+      calls = rw (calls-are f) (c 3 (lit< tt) .1);
+      catches = rw (catches-are f) (c 4 (lit< tt) .1);
+      some-type = rw (types-are f) (c 5 (lit< tt) .0);
+      types = rw (types-are f) (c 5 (lit< tt) .1);
+    }
+
+pub formed : (f : List ℕ) → judgeOf f ≡ Pass → Formed (graphOf f)
+formed f h =
+    let t = tablesOf f in
+    let j = judged f t h in
+    record {
+      first-method = limits f h .some-method;
+      node-inside = λ n l. node-fit f t n (j .nodes n l) .method;
+      entry-inside = λ m l. let r = entry-fit f t m (j .entries m l) in (r .inside, r .own);
+      flow-inside = λ a b w. let r = flow-fit f t (w .0) (j .flows (w .0) (w .1)) in rw (← w .2, ← w .3) (r .from, r .to, r .one-method);
+      flow-leaves = λ a b w. let r = flow-fit f t (w .0) (j .flows (w .0) (w .1)) in rw (← w .2) (λ u. r .no-return (u .1), λ e u. r .no-throw (u .0 .1));
+      catch-inside = λ a e b w. let r = catch-fit f t (w .0) (j .catches (w .0) (w .1)) in rw (← w .2, ← w .3, ← w .4) (r .from, r .to, omega (arith, r .exception), r .one-method);
+      calls-inside = λ c m w. let r = call-fit f t (w .0) (j .calls (w .0) (w .1)) in rw (← w .2, ← w .3) ((r .node, r .kind), r .method);
+      some-repeats = λ c w. node-fit f t c (j .nodes c (w .0)) .repeats (w .1);
+      eight-exceptions = λ n e w. rw (← w .1) (omega (arith, node-fit f t n (j .nodes n (w .0 .0)) .exception (w .0 .1)));
+    }
+
+-- The longest file has 12,454 bytes.
+pub longest : (f : List ℕ) → judgeOf f ≡ Pass → length f ≤ 12454
+longest f h =
+    let l = limits f h in
+    let e = length-fit f (tablesOf f) (judged f (tablesOf f) h .whole) in
+    omega (arith, end-is f)

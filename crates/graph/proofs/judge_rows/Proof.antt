@@ -1,0 +1,20 @@
+use Rattle.graph.specs.Judge.{judgeRows}
+use borrow.Author.Needs.{needs}
+use Rattle.graph.proofs.judge_rows.Statement.{statement}
+use Rattle.graph.proofs.judge_rows.Tie as tie
+
+returns : tie.Need-returns
+unfolding judgeRows
+returns c = rw (← c .before .before .before .before .before .refused .ensures, ← c .before .before .before .before .refused2 .ensures, ← c .before .before .before .refused3 .ensures, ← c .before .before .refused4 .ensures, ← c .before .refused5 .ensures) (c .refused6 .ensures)
+
+pub judge-rows-spec : {M : Type 1} → statement M
+judge-rows-spec =
+    tie.close
+    (tie.spec
+    (λ c κs. search needs)
+    (λ c κs. search needs)
+    (λ c κs. search needs)
+    (λ c κs. search needs)
+    (λ c κs. search needs)
+    (λ c κs. search needs)
+    returns)

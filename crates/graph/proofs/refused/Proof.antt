@@ -1,0 +1,15 @@
+use borrow.Author.Tests.{lt-ltb, le-ltb}
+use borrow.Author.Needs.{needs}
+use Rattle.graph.proofs.refused.Statement.{statement}
+use Rattle.graph.proofs.refused.Tie as tie
+
+returns : tie.Need-returns
+returns c = rw (← c .before .before .before .lowest-bad .ensures .0, ← c .before .before .rows .ensures .0, lt-ltb _ _ (c .before .if1 .taken)) (c .bad-row .ensures)
+
+returns-2 : tie.Need-returns-2
+returns-2 c = rw (← c .before .before .lowest-bad .ensures .0, ← c .before .rows .ensures .0, le-ltb _ _ (c .if1 .left))
+
+pub refused-spec : {M : Type 1} → statement M
+refused-spec =
+    tie.close
+    (tie.spec (λ c κs. search needs) (λ c κs. search needs) (λ c. search needs) (λ c κs. search needs) returns returns-2)

@@ -1,0 +1,53 @@
+use borrow.Author.Needs.{needs}
+use Rattle.graph.proofs.row_bad.Statement.{statement}
+use Rattle.graph.proofs.row_bad.Tie as tie
+
+count-bad-requires : tie.Need-count-bad-requires
+count-bad-requires c κs = rw (c .enum-told .given .1) at (c .before .before .before .pre .1)
+
+returns : tie.Need-returns
+returns c = rw (c .before .enum-told .given .1) (c .count-bad .ensures)
+
+returns-2 : tie.Need-returns-2
+returns-2 c = rw (c .before .enum-told2 .given .1) (c .entry-bad .ensures)
+
+returns-3 : tie.Need-returns-3
+returns-3 c = rw (c .before .enum-told3 .given .1) (c .node-bad .ensures)
+
+returns-4 : tie.Need-returns-4
+returns-4 c = rw (c .before .enum-told4 .given .1) (c .flow-bad .ensures)
+
+returns-5 : tie.Need-returns-5
+returns-5 c = rw (c .before .enum-told5 .given .1) (c .call-bad .ensures)
+
+returns-6 : tie.Need-returns-6
+returns-6 c = rw (c .before .enum-told6 .given .1) (c .catch-bad .ensures)
+
+returns-7 : tie.Need-returns-7
+returns-7 c = rw (c .before .enum-told7 .given .1) (c .opening-bad .ensures)
+
+pub row-bad-spec : {M : Type 1} → statement M
+row-bad-spec =
+    tie.close
+    (tie.spec
+    (λ c. search needs)
+    count-bad-requires
+    (λ c. search needs)
+    (λ c κs. search needs)
+    (λ c. search needs)
+    (λ c κs. search needs)
+    (λ c. search needs)
+    (λ c κs. search needs)
+    (λ c. search needs)
+    (λ c κs. search needs)
+    (λ c. search needs)
+    (λ c κs. search needs)
+    (λ c. search needs)
+    (λ c κs. search needs)
+    returns
+    returns-2
+    returns-3
+    returns-4
+    returns-5
+    returns-6
+    returns-7)

@@ -1,0 +1,38 @@
+-- What comes back of a graph file: numbers 1 to 9, and 0.
+use Prim.Native.Nat.{ℕ}
+use mathlib.Core.Bool.{Bool, cond}
+use mathlib.Core.List.{List}
+use lib.ListN.{length}
+use lib.Dec.{ltb}
+use Rattle.words.specs.Lowest.{lowest}
+use Rattle.answer.specs.declared.Answer.{Answer}
+use Rattle.answer.specs.declared.Answer.the-variants.{Pass, TooShort, BadCount, BadLength, BadEntry, BadNode, BadFlow, BadCall, BadCatch, BadOpening}
+use Rattle.tables.specs.declared.Tables.{Tables}
+use Rattle.tables.specs.Trailer.{tablesOf}
+use Rattle.refuse.specs.Bad.{countBad, lengthBad, entryBad, nodeBad, flowBad, callBad, catchBad, openingBad}
+
+-- within a table the lowest row; where no row is refused, what comes next
+abbrev pub refused : (ℕ → Bool) → ℕ → (ℕ → Answer) → Answer → Answer
+refused bad rows answer next = cond (ltb (lowest bad rows) rows) (answer (lowest bad rows)) next
+
+-- The first that applies, in this order, for a file whose trailer says t: 4 to 9,
+unfoldable pub judgeRows : List ℕ → Tables → Answer
+judgeRows f t =
+    refused (entryBad f t) (t .methods) BadEntry
+    (refused (nodeBad f t) (t .nodes) BadNode
+    (refused (flowBad f t) (t .flows) BadFlow
+    (refused (callBad f t) (t .calls) BadCall
+    (refused (catchBad f t) (t .catches) BadCatch
+    (refused (openingBad f t) (t .types) BadOpening
+    Pass)))))
+
+-- and before them 1 to 3.
+unfoldable pub judgeIn : List ℕ → Tables → Answer
+judgeIn f t =
+    cond (ltb (length f) 14) TooShort
+    (refused (countBad f) 6 BadCount
+    (cond (lengthBad f t) BadLength
+    (judgeRows f t)))
+
+abbrev pub judgeOf : List ℕ → Answer
+judgeOf f = judgeIn f (tablesOf f)

@@ -1,0 +1,40 @@
+-- The six tables, and the trailer's counts as one more, seen alike.
+use Prim.Native.Nat.{ℕ}
+use mathlib.Core.Bool.{Bool}
+use mathlib.Core.List.{List}
+use Rattle.answer.specs.declared.Answer.{Answer}
+use Rattle.answer.specs.declared.Answer.the-variants.{BadCount, BadEntry, BadNode, BadFlow, BadCall, BadCatch, BadOpening}
+use Rattle.tables.specs.declared.Tables.{Tables}
+use Rattle.graph.specs.declared.Table.{Table}
+use Rattle.graph.specs.declared.Table.the-variants.{Trailer, Methods, Nodes, Flow, Calls, Catches, Opening}
+use Rattle.refuse.specs.Bad.{countBad, entryBad, nodeBad, flowBad, callBad, catchBad, openingBad}
+
+-- how many rows the table has
+abbrev pub rowsOf : Tables → Table → ℕ
+rowsOf t Trailer = 6
+rowsOf t Methods = t .methods
+rowsOf t Nodes = t .nodes
+rowsOf t Flow = t .flows
+rowsOf t Calls = t .calls
+rowsOf t Catches = t .catches
+rowsOf t Opening = t .types
+
+-- which of its rows are refused
+abbrev pub rowBad : List ℕ → Tables → Table → ℕ → Bool
+rowBad f t Trailer = countBad f
+rowBad f t Methods = entryBad f t
+rowBad f t Nodes = nodeBad f t
+rowBad f t Flow = flowBad f t
+rowBad f t Calls = callBad f t
+rowBad f t Catches = catchBad f t
+rowBad f t Opening = openingBad f t
+
+-- the answer that names the row
+abbrev pub badRow : Table → ℕ → Answer
+badRow Trailer k = BadCount k
+badRow Methods k = BadEntry k
+badRow Nodes k = BadNode k
+badRow Flow k = BadFlow k
+badRow Calls k = BadCall k
+badRow Catches k = BadCatch k
+badRow Opening k = BadOpening k

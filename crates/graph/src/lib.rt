@@ -1,0 +1,114 @@
+// The judgement of a graph file: answers 1 to 9.
+use answer::Answer;
+use tables::Tables;
+ghost use mathlib.Core.Path.{_≡_};
+ghost use Prim.Native.Nat.{_<_};
+ghost use Rattle.words.specs.Lowest.{lowest};
+ghost use Rattle.graph.specs.Judge.{refused, judgeRows, judgeOf};
+ghost use Rattle.graph.specs.Scan.{rowsOf, rowBad, badRow};
+
+// The six tables, and the trailer's counts as one more.
+pub enum Table {
+    Trailer,
+    Methods,
+    Nodes,
+    Flow,
+    Calls,
+    Catches,
+    Opening,
+}
+
+fn rows(t: Tables, table: Table) -> usize
+    ensures { λ r. ⌜ (r ≡ rowsOf t table) × (r < 65536) ⌝ }
+{
+    match table {
+        Table::Trailer => 6,
+        Table::Methods => t.methods as usize,
+        Table::Nodes => t.nodes as usize,
+        Table::Flow => t.flows as usize,
+        Table::Calls => t.calls as usize,
+        Table::Catches => t.catches as usize,
+        Table::Opening => t.types as usize,
+    }
+}
+
+fn row_bad(f: &[u8], t: Tables, table: Table, k: usize) -> bool
+    requires { ⌜ (k < 65536) × (k < rowsOf t table) ⌝ }
+    ensures { λ r. ⌜ r ≡ rowBad (now (f .entry)) t table k ⌝ }
+{
+    match table {
+        Table::Trailer => refuse::count_bad(f, k),
+        Table::Methods => refuse::entry_bad(f, t, k),
+        Table::Nodes => refuse::node_bad(f, t, k),
+        Table::Flow => refuse::flow_bad(f, t, k),
+        Table::Calls => refuse::call_bad(f, t, k),
+        Table::Catches => refuse::catch_bad(f, t, k),
+        Table::Opening => refuse::opening_bad(f, t, k),
+    }
+}
+
+// The lowest row of the table that is refused, or how many rows there are.
+fn lowest_bad(f: &[u8], t: Tables, table: Table) -> usize
+    ensures { λ r. ⌜ (r ≡ lowest (rowBad (now (f .entry)) t table) (rowsOf t table)) × (r < 65536) ⌝ }
+{
+    let n = rows(t, table);
+    let mut k = 0;
+    while k < n {
+        if row_bad(f, t, table, k) {
+            return k;
+        }
+        k += 1;
+    }
+    n
+}
+
+// The answer for row k of the table.
+fn bad_row(table: Table, k: u16) -> Answer
+    ensures { λ r. ⌜ r ≡ badRow table k ⌝ }
+{
+    match table {
+        Table::Trailer => Answer::BadCount(k),
+        Table::Methods => Answer::BadEntry(k),
+        Table::Nodes => Answer::BadNode(k),
+        Table::Flow => Answer::BadFlow(k),
+        Table::Calls => Answer::BadCall(k),
+        Table::Catches => Answer::BadCatch(k),
+        Table::Opening => Answer::BadOpening(k),
+    }
+}
+
+// The table's refusal, and where it has none, the answer of what comes next.
+fn refused(f: &[u8], t: Tables, table: Table, next: Answer) -> Answer
+    ensures { λ r. ⌜ r ≡ refused (rowBad (now (f .entry)) t table) (rowsOf t table) (badRow table) next ⌝ }
+{
+    let k = lowest_bad(f, t, table);
+    if k < rows(t, table) {
+        return bad_row(table, k as u16);
+    }
+    next
+}
+
+// What a table answers stands before what the next one answers, so the last table is looked at first.
+fn judge_rows(f: &[u8], t: Tables) -> Answer
+    ensures { λ r. ⌜ r ≡ judgeRows (now (f .entry)) t ⌝ }
+{
+    let opening = refused(f, t, Table::Opening, Answer::Pass);
+    let catches = refused(f, t, Table::Catches, opening);
+    let calls = refused(f, t, Table::Calls, catches);
+    let flow = refused(f, t, Table::Flow, calls);
+    let nodes = refused(f, t, Table::Nodes, flow);
+    refused(f, t, Table::Methods, nodes)
+}
+
+pub fn judge(f: &[u8]) -> Answer
+    ensures { λ r. ⌜ r ≡ judgeOf (now (f .entry)) ⌝ }
+{
+    if f.len() < 14 {
+        return Answer::TooShort;
+    }
+    let t = tables::read(f);
+    if refuse::length_bad(f, t) {
+        return refused(f, t, Table::Trailer, Answer::BadLength);
+    }
+    refused(f, t, Table::Trailer, judge_rows(f, t))
+}

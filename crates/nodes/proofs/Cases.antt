@@ -1,0 +1,54 @@
+-- What a node does and what a run starts with, at each case that the code tells apart.
+use Prim.Native.Nat.{ℕ, _<_, _≤_}
+use mathlib.Core.Path.{_≡_, refl, sym, ap, _∙_}
+use mathlib.Core.List.{List}
+use borrow.Author.Tests.{lt-ltb, le-ltb, le-leb, lt-leb, eq-eqb, ne-eqb}
+use Rattle.single.specs.declared.Held.{Held}
+use Rattle.effect.specs.declared.Effect.{Effect}
+use Rattle.effect.specs.Whole.{nothingDone, drawOf, grantOf}
+use Rattle.model.specs.Stocks.{Does, plain, grant, draw, stepOf}
+use Rattle.tables.specs.declared.Tables.{Tables}
+use Rattle.tables.specs.Kinds.{grantKind, drawKind}
+use Rattle.tables.specs.Fields.{nodeKind, nodeNumber, nodeCount, nodeRights, openingRights, openingCount}
+use Rattle.nodes.specs.Nodes.{doesIn, openingAt}
+
+module _ (f : List ℕ) (t : Tables) (n : ℕ) where
+  pub does-outside : t .nodes ≤ n → doesIn f t n ≡ plain
+  unfolding doesIn
+  does-outside h = simp (le-leb (t .nodes) n h)
+
+  module _ (inside : n < t .nodes) where
+    pub does-grant : nodeKind f t n ≡ grantKind → doesIn f t n ≡ grant (nodeNumber f t n) (nodeRights f t n) (nodeCount f t n)
+    unfolding doesIn
+    does-grant e = simp (lt-leb (t .nodes) n inside, eq-eqb (nodeKind f t n) grantKind e)
+
+    pub does-draw : nodeKind f t n ≡ drawKind → doesIn f t n ≡ draw (nodeNumber f t n) (nodeRights f t n)
+    unfolding doesIn
+    does-draw e = simp (lt-leb (t .nodes) n inside, e)
+
+    pub does-plain : (nodeKind f t n ≡ grantKind → ⊥) → (nodeKind f t n ≡ drawKind → ⊥) → doesIn f t n ≡ plain
+    unfolding doesIn
+    does-plain g d = simp (lt-leb (t .nodes) n inside, ne-eqb (nodeKind f t n) grantKind g, ne-eqb (nodeKind f t n) drawKind d)
+
+-- the effects of those steps
+module _ (r : Effect) {d : Does} where
+  pub step-plain : d ≡ plain → r ≡ nothingDone → r ≡ stepOf d
+  unfolding stepOf
+  step-plain e q = q ∙ ap stepOf (sym e)
+
+  pub step-grant : {t p m t′ p′ m′ : ℕ} → d ≡ grant t p m → r ≡ grantOf t′ p′ m′ → t′ ≡ t → p′ ≡ p → m′ ≡ m → r ≡ stepOf d
+  unfolding stepOf
+  step-grant e q a b c = q ∙ (λ i. grantOf (a i) (b i) (c i)) ∙ ap stepOf (sym e)
+
+  pub step-draw : {t p t′ : ℕ} → d ≡ draw t p → r ≡ drawOf t′ → t′ ≡ t → r ≡ stepOf d
+  unfolding stepOf
+  step-draw e q a = q ∙ ap drawOf a ∙ ap stepOf (sym e)
+
+module _ (f : List ℕ) (t : Tables) (k : ℕ) where
+  pub opening-some : (r c : ℕ) → k < t .types → r ≡ openingRights f t k → c ≡ openingCount f t k → record { rights = r; count = c } ≡ openingAt f t k
+  unfolding openingAt
+  opening-some r c h p q = simp (lt-ltb k (t .types) h) (λ i. record { rights = p i; count = q i })
+
+  pub opening-none : t .types ≤ k → record { rights = 0; count = 0 } ≡ openingAt f t k
+  unfolding openingAt
+  opening-none h = simp (le-ltb k (t .types) h)

@@ -1,0 +1,55 @@
+-- A file that passes gives the theorems of the model what they ask for.
+use Prim.Native.Nat.{ℕ, _<_}
+use mathlib.Core.Path.{_≡_, refl, sym, subst}
+use mathlib.Core.List.{List}
+use native.Mathlib.Decide.{ℕ-discrete, decLt}
+use native.Mathlib.Omega.{arith}
+use Rattle.words.proofs.Read.{word-lt}
+use Rattle.answer.specs.declared.Answer.the-variants.{Pass}
+use Rattle.tables.specs.Trailer.{tablesOf}
+use Rattle.tables.specs.Kinds.{grantKind, drawKind}
+use Rattle.tables.specs.Fields.{nodeKind, nodeNumber, nodeRights}
+use Rattle.refuse.proofs.Fit.{node-fit}
+use Rattle.graph.specs.Judge.{judgeOf}
+use Rattle.graph.specs.Graph.{graphOf}
+use Rattle.graph.proofs.Judged.{judged}
+use Rattle.graph.proofs.Whole.{formed, limits}
+use Rattle.model.specs.Stocks.{permits, Does, plain, grant, draw, doing, stepOf}
+use Rattle.model.proofs.Setting.{Setting}
+use Rattle.model.proofs.Stocks.{laws, told, Fits}
+use Rattle.nodes.specs.Nodes.{doesIn, openingIn}
+use Rattle.nodes.proofs.Cases.{does-outside, does-grant, does-draw, does-plain}
+
+rights-lt : (f : List ℕ) (n : ℕ) → nodeRights f (tablesOf f) n < 65536
+unfolding nodeRights
+rights-lt f n = word-lt f _
+
+module _ (f : List ℕ) (pass : judgeOf f ≡ Pass) where
+  here : (n : ℕ) (d : Does) → doesIn f (tablesOf f) n ≡ d → Fits d → Fits (doesIn f (tablesOf f) n)
+  here n d e h = subst Fits (sym e) h
+
+  pub fits : (n : ℕ) → Fits (doesIn f (tablesOf f) n)
+  fits n = elim (decLt n (tablesOf f .nodes)) [
+    | no h ↦ here n plain (does-outside f (tablesOf f) n (omega arith)) tt
+    | yes h ↦ elim (ℕ-discrete (nodeKind f (tablesOf f) n) grantKind) [
+      | yes g ↦ here n _ (does-grant f (tablesOf f) n h g) tt
+      | no g ↦ elim (ℕ-discrete (nodeKind f (tablesOf f) n) drawKind) [
+        | yes d ↦
+            let k = node-fit f (tablesOf f) n (judged f (tablesOf f) pass .nodes n h) in
+            here n _ (does-draw f (tablesOf f) n h d) (omega (arith, k .draw-type d, limits f pass .types), rights-lt f n)
+        | no d ↦ here n plain (does-plain f (tablesOf f) n h g d) tt
+      ]
+    ]
+  ]
+
+  abbrev pub setting : Setting
+  setting = record {
+    W = permits;
+    laws = laws;
+    G = graphOf f;
+    formed = formed f pass;
+    D = doing (doesIn f (tablesOf f));
+    step = λ n. stepOf (doesIn f (tablesOf f) n);
+    told = told (doesIn f (tablesOf f)) fits;
+    opening = openingIn f (tablesOf f);
+  }

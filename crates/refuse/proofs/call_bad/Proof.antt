@@ -1,0 +1,20 @@
+use Rattle.refuse.specs.Bad.{callBad}
+use borrow.Author.Needs.{needs}
+use Rattle.refuse.proofs.call_bad.Statement.{statement}
+use Rattle.refuse.proofs.call_bad.Tie as tie
+
+returns : tie.Need-returns
+unfolding callBad
+returns c = cc
+
+pub call-bad-spec : {M : Type 1} → statement M
+call-bad-spec =
+    tie.close
+    (tie.spec
+    (λ c. search needs)
+    (λ c. search needs)
+    (λ c κs. search needs)
+    (λ c κs. search needs)
+    (λ c κs. search needs)
+    (λ c κs. search needs)
+    returns)

@@ -1,0 +1,32 @@
+use borrow.Author.Tests.{eq-eqb, ne-eqb}
+use Rattle.refuse.specs.Bad.{above, notAbove, catchRow}
+use borrow.Author.Needs.{needs}
+use Rattle.refuse.proofs.catch_not_above.Statement.{statement}
+use Rattle.refuse.proofs.catch_not_above.Tie as tie
+
+returns : tie.Need-returns
+unfolding notAbove
+returns c = simp (eq-eqb _ _ (c .if1 .taken))
+
+returns-2 : tie.Need-returns-2
+unfolding above notAbove catchRow
+returns-2 c = simp (ne-eqb _ _ (c .before .before .before .before .before .before .before .before .before .if1 .left)) (cc)
+
+pub catch-not-above-spec : {M : Type 1} → statement M
+catch-not-above-spec =
+    tie.close
+    (tie.spec
+    returns
+    (λ c κs. search needs)
+    (λ c. search needs)
+    (λ c κs. search needs)
+    (λ c κs. search needs)
+    (λ c κs. search needs)
+    (λ c. search needs)
+    (λ c κs. search needs)
+    (λ c κs. search needs)
+    (λ c κs. search needs)
+    (λ c. search needs)
+    (λ c κs. search needs)
+    (λ c κs. search needs)
+    returns-2)

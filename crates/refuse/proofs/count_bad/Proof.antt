@@ -1,0 +1,19 @@
+use Rattle.refuse.specs.Bad.{countBad}
+use borrow.Author.Needs.{needs}
+use Rattle.refuse.proofs.count_bad.Statement.{statement}
+use Rattle.refuse.proofs.count_bad.Tie as tie
+
+returns : tie.Need-returns
+unfolding countBad
+returns c = cc
+
+pub count-bad-spec : {M : Type 1} → statement M
+count-bad-spec =
+    tie.close
+    (tie.spec
+    (λ c κs. search needs)
+    (λ c. search needs)
+    (λ c. search needs)
+    (λ c. search needs)
+    (λ c. search needs)
+    returns)

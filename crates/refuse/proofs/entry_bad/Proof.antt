@@ -1,0 +1,11 @@
+use Rattle.refuse.specs.Bad.{entryBad}
+use borrow.Author.Needs.{needs}
+use Rattle.refuse.proofs.entry_bad.Statement.{statement}
+use Rattle.refuse.proofs.entry_bad.Tie as tie
+
+returns : tie.Need-returns
+unfolding entryBad
+returns c = cc
+
+pub entry-bad-spec : {M : Type 1} → statement M
+entry-bad-spec = tie.close (tie.spec (λ c. search needs) (λ c κs. search needs) (λ c κs. search needs) returns)

@@ -1,0 +1,11 @@
+use Rattle.refuse.specs.Bad.{lengthBad}
+use borrow.Author.Needs.{needs}
+use Rattle.refuse.proofs.length_bad.Statement.{statement}
+use Rattle.refuse.proofs.length_bad.Tie as tie
+
+returns : tie.Need-returns
+unfolding lengthBad
+returns c = cc
+
+pub length-bad-spec : {M : Type 1} → statement M
+length-bad-spec = tie.close (tie.spec (λ c. search needs) (λ c κs. search needs) (λ c. search needs) returns)

@@ -1,0 +1,4 @@
+pub mod Climb
+pub mod Halve
+pub mod Stretch
+pub mod Caught

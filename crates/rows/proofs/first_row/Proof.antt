@@ -1,0 +1,86 @@
+use Prim.Native.Nat.{_≤_, _<_, _-_}
+use mathlib.Core.Path.{_≡_}
+use mathlib.Core.Bool.{true}
+use denote.Ref.{now}
+use native.Mathlib.Nat.{lt-irrefl}
+use borrow.Author.Count.{below-none}
+use borrow.Author.Tests.{le-leb}
+use borrow.Author.Needs.{needs}
+use Rattle.words.proofs.Lowest.{NoneBelow}
+use Rattle.rows.specs.Rows.{keyOf, lengthOf, firstRow}
+use Rattle.rows.proofs.Climb.{climbs}
+use Rattle.rows.proofs.Halve.{AtLeast, less-below, closed}
+use Rattle.rows.proofs.first_row.Statement.{statement}
+use Rattle.rows.proofs.first_row.Tie as tie
+
+abbrev Inv-loop : tie.InvT-loop
+Inv-loop f t s x low₀ high₀ low high = (low ≤ high) × (high ≤ high₀) × NoneBelow (AtLeast (keyOf f t s) x) low × (high < high₀ → AtLeast (keyOf f t s) x high ≡ true)
+
+abbrev μ-loop : tie.MeasureT-loop
+μ-loop f t s x low₀ high₀ low high = high - low
+
+length-requires : tie.Need-length-requires Inv-loop μ-loop
+length-requires c κs = search needs
+
+loop-holds : tie.Need-loop-holds Inv-loop μ-loop
+loop-holds c = (search needs, search needs, below-none _, λ l. absurd (lt-irrefl _ l))
+
+add-middle : tie.Need-add-middle Inv-loop μ-loop
+add-middle c = search needs
+
+key-requires : tie.Need-key-requires Inv-loop μ-loop
+key-requires c κs = search needs
+
+loop-less : tie.Need-loop-less Inv-loop μ-loop
+loop-less c = search needs
+
+loop-again : tie.Need-loop-again Inv-loop μ-loop
+loop-again c =
+    let l = c .before .before .before .loop .inv in
+    (search needs, search needs, l .2, λ u. rw (← c .before .key .ensures) (le-leb _ _ (c .if1 .taken)))
+
+add-low : tie.Need-add-low Inv-loop μ-loop
+add-low c = search needs
+
+loop-less-2 : tie.Need-loop-less-2 Inv-loop μ-loop
+loop-less-2 c = search needs
+
+loop-again-2 : tie.Need-loop-again-2 Inv-loop μ-loop
+loop-again-2 c =
+    let l = c .before .before .before .loop .inv in
+    let b = c .before .before .before .before .before .before in
+    let n = c .before .before .before .before .length .ensures .0 in
+    let less = rw (c .before .key .ensures) at (c .if1 .left) in (
+      search needs,
+      search needs,
+      less-below _ (lengthOf (b .args .t) (b .args .s)) (b .args .x) _ (climbs (now (b .args .f)) (b .args .t) (b .pre) (b .args .s)) (rw (← n) (search needs)) less,
+      l .3,
+    )
+
+returns : tie.Need-returns Inv-loop μ-loop
+unfolding firstRow
+returns c =
+    let l = c .before .loop .inv in
+    let a = c .before .before .before .before .args in
+    let n = c .before .before .length .ensures .0 in (
+      closed (AtLeast (keyOf (now (a .f)) (a .t) (a .s)) (a .x)) n (l .0) (search needs) (l .1) (l .2) (l .3),
+      search needs,
+      search needs,
+    )
+
+pub first-row-spec : {M : Type 1} → statement M
+first-row-spec =
+    tie.close
+    (tie.spec
+    Inv-loop
+    μ-loop
+    length-requires
+    loop-holds
+    add-middle
+    key-requires
+    loop-less
+    loop-again
+    add-low
+    loop-less-2
+    loop-again-2
+    returns)

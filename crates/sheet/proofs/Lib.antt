@@ -1,0 +1,5 @@
+pub mod Splice
+pub mod Fill
+pub mod Same
+pub mod Back
+pub mod Potential

@@ -1,0 +1,72 @@
+// Judges the sheets in the files that its arguments name. A file is three bytes, the number of methods, of nodes and of
+// types, and then the sheet. Printed are its first ill-formed block and that block's first word.
+use layout::Shape;
+use libc::STDOUT_FILENO;
+ghost use Rattle.layout.specs.Layout.{Within};
+
+fn print_block(b: usize, w: usize) {
+    io::write_all(STDOUT_FILENO, b"block ");
+    io::print_decimal(STDOUT_FILENO, b as u64);
+    io::write_all(STDOUT_FILENO, b" word ");
+    io::print_decimal(STDOUT_FILENO, w as u64);
+    io::write_all(STDOUT_FILENO, b"\n");
+}
+
+fn judge_sheet(s: &[u8], x: Shape)
+    requires { ⌜ Within x ⌝ }
+{
+    if s.len() != layout::sheet_bytes(x) {
+        io::write_all(STDOUT_FILENO, b"wrong length\n");
+        return;
+    }
+    let b = formed::first_ill(s, x);
+    if b < layout::block_count(x) {
+        print_block(b, layout::block_at(x, b));
+        return;
+    }
+    io::write_all(STDOUT_FILENO, b"well formed\n");
+}
+
+fn judge_bytes(f: &[u8]) {
+    let m = words::byte(f, 0);
+    let n = words::byte(f, 1);
+    let t = words::byte(f, 2);
+    if f.len() < 3 {
+        return;
+    }
+    if 64 < m {
+        return;
+    }
+    if 6 < t {
+        return;
+    }
+    judge_sheet(
+        &f[3..],
+        Shape {
+            methods: m,
+            nodes: n,
+            types: t,
+        },
+    );
+}
+
+fn judge_arg(i: usize) {
+    let mut path = io::buffer();
+    let n = os::arg(i, &mut path);
+    let fd = os::open_read(&path[..n]);
+    if fd < 0 {
+        os::fail(&path[..n]);
+        return;
+    }
+    let mut buf = [0u8; 4096];
+    let k = io::read_full(fd, &mut buf);
+    judge_bytes(&buf[..k]);
+    libc::close(fd);
+}
+
+fn main() {
+    let n = os::arg_count();
+    for i in 1..n {
+        judge_arg(i);
+    }
+}

@@ -1,0 +1,12 @@
+use Rattle.tables.specs.Fields.{callMethod}
+use borrow.Author.Needs.{needs}
+use Rattle.tables.proofs.call_method.Statement.{statement}
+use Rattle.tables.proofs.call_method.Tie as tie
+
+returns : tie.Need-returns
+unfolding callMethod
+returns c = search needs
+
+pub call-method-spec : {M : Type 1} → statement M
+call-method-spec =
+    tie.close (tie.spec (λ c. search needs) (λ c. search needs) (λ c. search needs) (λ c. search needs) (λ c κs. search needs) returns)

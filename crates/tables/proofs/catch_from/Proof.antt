@@ -1,0 +1,11 @@
+use Rattle.tables.specs.Fields.{catchFrom}
+use borrow.Author.Needs.{needs}
+use Rattle.tables.proofs.catch_from.Statement.{statement}
+use Rattle.tables.proofs.catch_from.Tie as tie
+
+returns : tie.Need-returns
+unfolding catchFrom
+returns c = search needs
+
+pub catch-from-spec : {M : Type 1} → statement M
+catch-from-spec = tie.close (tie.spec (λ c. search needs) (λ c. search needs) (λ c. search needs) (λ c κs. search needs) returns)

@@ -1,0 +1,11 @@
+use Rattle.tables.specs.Fields.{nodeMethod}
+use borrow.Author.Needs.{needs}
+use Rattle.tables.proofs.node_method.Statement.{statement}
+use Rattle.tables.proofs.node_method.Tie as tie
+
+returns : tie.Need-returns
+unfolding nodeMethod
+returns c = search needs
+
+pub node-method-spec : {M : Type 1} → statement M
+node-method-spec = tie.close (tie.spec (λ c. search needs) (λ c. search needs) (λ c. search needs) (λ c κs. search needs) returns)

@@ -1,0 +1,11 @@
+use Rattle.tables.specs.Fields.{openingRights}
+use borrow.Author.Needs.{needs}
+use Rattle.tables.proofs.opening_rights.Statement.{statement}
+use Rattle.tables.proofs.opening_rights.Tie as tie
+
+returns : tie.Need-returns
+unfolding openingRights
+returns c = search needs
+
+pub opening-rights-spec : {M : Type 1} → statement M
+opening-rights-spec = tie.close (tie.spec (λ c. search needs) (λ c. search needs) (λ c. search needs) (λ c κs. search needs) returns)

@@ -1,0 +1,12 @@
+use Rattle.tables.specs.Trailer.{trailer}
+use borrow.Author.Needs.{needs}
+use Rattle.tables.proofs.trailer_word.Statement.{statement}
+use Rattle.tables.proofs.trailer_word.Tie as tie
+
+returns : tie.Need-returns
+unfolding trailer
+returns c = (cc, search needs)
+
+pub trailer-word-spec : {M : Type 1} → statement M
+trailer-word-spec =
+    tie.close (tie.spec (λ c κs. search needs) (λ c. search needs) (λ c. search needs) (λ c κs. search needs) returns)

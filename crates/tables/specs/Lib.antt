@@ -1,0 +1,3 @@
+pub mod Trailer
+pub mod Fields
+pub mod Kinds
