@@ -49,7 +49,7 @@ placeOf (Broken r) = r
 -- lowest reached node whose draw is not covered
 placeOf (Overdrawn n) = n
 
--- no answer names a type or a line of a log
+-- every answer has type 0 and line 0
 abbrev pub typeOf : Answer → ℕ
 typeOf a = 0
 

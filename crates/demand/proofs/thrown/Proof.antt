@@ -1,0 +1,30 @@
+use Prim.Native.Nat.{_<_, _≤_}
+use mathlib.Core.Path.{_≡_, sym, ap, _∙_}
+use mathlib.Core.Bool.{true, false}
+use native.Mathlib.Omega.{arith}
+use denote.Ref.{now}
+use borrow.Author.Needs.{needs}
+use Rattle.effect.specs.Whole.{thenOf}
+use Rattle.sheet.specs.Read.{effectAt}
+use Rattle.demand.specs.Demand.{thrownIn}
+use Rattle.demand.proofs.thrown.Statement.{statement}
+use Rattle.demand.proofs.thrown.Tie as tie
+
+returns : tie.Need-returns
+unfolding thrownIn
+returns c =
+    let eff = c .before in
+    let exit = eff .before in
+    let a = exit .before .before .before .before .args in
+    c .then .ensures ∙ ap (thenOf (a .c .rounds .earlier)) (eff .effect .ensures ∙ ap (effectAt (now (a .s)) (a .x .types)) (exit .exit-at .ensures .0))
+
+pub thrown-spec : {M : Type 1} → statement M
+thrown-spec =
+    tie.close
+    (tie.spec
+    (λ c. search needs)
+    (λ c. omega (arith, c .before .before .before .pre .1))
+    (λ c κs. (c .before .before .before .pre .0, (search needs, omega (arith, c .before .before .before .pre .1))))
+    (λ c κs. omega (arith, c .exit-at .ensures .1))
+    (λ c κs. search needs)
+    returns)

@@ -1,0 +1,187 @@
+-- What check computes is what its answers mean, no other answer is, and what it accepts no run overdraws.
+use Prim.Native.Nat.{ℕ, _≤_, _<_}
+use mathlib.Core.Path.{_≡_, refl, sym, ap, subst, _∙_}
+use mathlib.Core.Bool.{Bool, true, false, cond}
+use mathlib.Core.List.{List}
+use native.Mathlib.Decide.{decLt, decLe}
+use native.Mathlib.Omega.{arith}
+use lib.ListN.{length}
+use lib.Dec.{ltb, eqb}
+use borrow.Author.Tests.{ltb-true, ltb-false, lt-ltb, le-ltb, eqb-true, eqb-false, eq-eqb, ne-eqb}
+use Rattle.words.specs.Lowest.{lowest}
+use Rattle.words.proofs.Lowest.{NoneBelow, lowest-is, lowest-none, is-lowest}
+use Rattle.answer.specs.declared.Answer.{Answer}
+use Rattle.answer.specs.declared.Answer.the-variants.{Pass, BadSheet, BadBlock, Broken, Overdrawn}
+use Rattle.answer.specs.Number.{numberOf}
+use Rattle.answer.proofs.Unpack.{zero-pass}
+use Rattle.model.specs.Machine.{Overdraws}
+use Rattle.model.specs.Stocks.{doing}
+use Rattle.model.proofs.Exact.{never-overdraws}
+use Rattle.tables.specs.declared.Tables.{Tables}
+use Rattle.tables.specs.Trailer.{tablesOf}
+use Rattle.graph.specs.Judge.{judgeOf}
+use Rattle.graph.specs.Graph.{graphOf}
+use Rattle.graph.proofs.Whole.{limits}
+use Rattle.nodes.specs.Nodes.{doesIn, openingIn}
+use Rattle.nodes.proofs.Setting.{setting}
+use Rattle.layout.specs.declared.Shape.{Shape}
+use Rattle.layout.specs.Layout.{Within, blockCount, blockAt, sheetBytes}
+use Rattle.formed.specs.Ill.{illBlock, firstIll}
+use Rattle.rules.specs.Broken.{brokenOf}
+use Rattle.rules.specs.Sheet.{shapeOf}
+use Rattle.rules.proofs.Asked.{true-false}
+use Rattle.rules.proofs.Exact.{rules-below, rule-broken, rules-beyond}
+use Rattle.permit.specs.Check.{uncoveredAt, wholeSheet, judgedSheet, checkOf}
+use Rattle.permit.specs.Meaning.{sheet, WellFormed, Holds, IsReached, IsCovered, Checks, refused, wrong-length, ill-formed, broken, overdrawn, accepted}
+use Rattle.permit.proofs.Draws.{uncovered-says, covered-says}
+
+module _ (f s : List ℕ) where
+  abbrev t : Tables
+  t = tablesOf f
+
+  abbrev x : Shape
+  x = shapeOf t
+
+  -- each step of the computation under the test that leads there
+  passes : judgeOf f ≡ Pass → eqb (numberOf (judgeOf f)) 0 ≡ true
+  passes p = ap (λ a. eqb (numberOf a) 0) p
+
+  whole-of : ((b : ℕ) → b < blockCount x → illBlock s x b ≡ false) → firstIll s x ≡ blockCount x
+  whole-of h = lowest-none (illBlock s x) (blockCount x) h
+
+  checked-whole : WellFormed f s → checkOf f s ≡ wholeSheet f t x s
+  unfolding checkOf judgedSheet
+  checked-whole w =
+      let n : ltb (firstIll s x) (blockCount x) ≡ false = le-ltb (firstIll s x) (blockCount x) (omega (arith, whole-of (w .2))) in
+      rw (passes (w .0), eq-eqb _ _ (w .1), n) refl
+
+  module _ (w : WellFormed f s) where
+    all-hold : 11 ≤ brokenOf f t x s → (r : ℕ) → Holds f s r
+    all-hold h r = elim (decLt r 11) [
+      | yes l ↦ rules-below f (w .0) s (whole-of (w .2)) r (omega arith)
+      | no l ↦ rules-beyond f (w .0) s (whole-of (w .2)) r (omega arith)
+    ]
+
+    none-broken : ((r : ℕ) → Holds f s r) → 11 ≤ brokenOf f t x s
+    none-broken h = elim (decLe 11 (brokenOf f t x s)) [
+      | yes l ↦ l
+      | no l ↦ absurd (rule-broken f (w .0) s (whole-of (w .2)) (omega arith) (h _))
+    ]
+
+    draws : 11 ≤ brokenOf f t x s → Checks f s (cond (ltb (lowest (uncoveredAt f t x s) (t .nodes)) (t .nodes)) (Overdrawn (lowest (uncoveredAt f t x s) (t .nodes))) Pass)
+    draws h = go (ltb n (t .nodes)) refl
+      where
+        n : ℕ
+        n = lowest (uncoveredAt f t x s) (t .nodes)
+
+        below : (m : ℕ) → m < n → IsReached f s m → IsCovered f s m
+        below m k y = covered-says f s (w .0) m (y .0 .0) (is-lowest (uncoveredAt f t x s) (t .nodes) .before m k) y
+
+        go : (b : Bool) → ltb n (t .nodes) ≡ b → Checks f s (cond b (Overdrawn n) Pass)
+        go true e =
+            let l = ltb-true n (t .nodes) e in
+            let u = uncovered-says f s (w .0) n l (is-lowest (uncoveredAt f t x s) (t .nodes) .found l) in
+            overdrawn w (all-hold h) n (u .0) (u .1) below
+        go false e = accepted w (all-hold h) (λ m y. below m (omega (arith, ltb-false n (t .nodes) e, y .0 .0)) y)
+
+    whole : Checks f s (wholeSheet f t x s)
+    unfolding wholeSheet
+    whole = go (ltb (brokenOf f t x s) 11) refl
+      where
+        go : (b : Bool) → ltb (brokenOf f t x s) 11 ≡ b
+            → Checks f s (cond b (Broken (brokenOf f t x s)) (cond (ltb (lowest (uncoveredAt f t x s) (t .nodes)) (t .nodes)) (Overdrawn (lowest (uncoveredAt f t x s) (t .nodes))) Pass))
+        go true e = broken w (brokenOf f t x s) (rules-below f (w .0) s (whole-of (w .2))) (rule-broken f (w .0) s (whole-of (w .2)) (ltb-true _ _ e))
+        go false e = draws (ltb-false _ _ e)
+
+  judged : judgeOf f ≡ Pass → Checks f s (judgedSheet f t x s)
+  unfolding judgedSheet
+  judged p = go (eqb (length s) (sheetBytes x)) refl
+    where
+      ill : length s ≡ sheetBytes x → (b : Bool) → ltb (firstIll s x) (blockCount x) ≡ b → Checks f s (cond b (BadBlock (blockAt x (firstIll s x))) (wholeSheet f t x s))
+      ill e true h =
+          let l = ltb-true (firstIll s x) (blockCount x) h in
+          let r = is-lowest (illBlock s x) (blockCount x) in
+          ill-formed p e (firstIll s x) l (r .found l) (r .before)
+      ill e false h =
+          let k = ltb-false (firstIll s x) (blockCount x) h in
+          whole (p, e, λ b l. is-lowest (illBlock s x) (blockCount x) .before b (omega arith))
+
+      go : (b : Bool) → eqb (length s) (sheetBytes x) ≡ b → Checks f s (cond b (cond (ltb (firstIll s x) (blockCount x)) (BadBlock (blockAt x (firstIll s x))) (wholeSheet f t x s)) BadSheet)
+      go true e = ill (eqb-true _ _ e) (ltb (firstIll s x) (blockCount x)) refl
+      go false e = wrong-length p (eqb-false _ _ e)
+
+  -- Check's answer means what it should,
+  pub checks : Checks f s (checkOf f s)
+  unfolding checkOf
+  checks = go (eqb (numberOf (judgeOf f)) 0) refl
+    where
+      go : (b : Bool) → eqb (numberOf (judgeOf f)) 0 ≡ b → Checks f s (cond b (judgedSheet f t x s) (judgeOf f))
+      go true e = judged (zero-pass (judgeOf f) (eqb-true _ _ e))
+      go false e = refused (λ p. true-false (passes p) e)
+
+  -- and there is no second answer that does.
+  pub only : {a : Answer} → Checks f s a → a ≡ checkOf f s
+  unfolding checkOf judgedSheet wholeSheet
+  only (refused n) = go (eqb (numberOf (judgeOf f)) 0) refl
+    where
+      go : (b : Bool) → eqb (numberOf (judgeOf f)) 0 ≡ b → judgeOf f ≡ cond b (judgedSheet f t x s) (judgeOf f)
+      go true e = absurd (n (zero-pass (judgeOf f) (eqb-true _ _ e)))
+      go false e = refl
+  only (wrong-length p n) = rw (passes p, ne-eqb (length s) (sheetBytes x) n) refl
+  only (ill-formed p e b l h below) =
+      let q : firstIll s x ≡ b = lowest-is (illBlock s x) (blockCount x) b below l h in
+      rw (passes p, eq-eqb _ _ e, q, lt-ltb _ _ l) refl
+  only (broken w r below n) =
+      let q : brokenOf f t x s ≡ r = is-r (decLt r (brokenOf f t x s)) (decLt (brokenOf f t x s) r) in
+      let l : r < 11 = few (decLt r 11) in
+      sym (checked-whole w ∙ rw (q, lt-ltb _ _ l) refl)
+    where
+      few : Dec (r < 11) → r < 11
+      few (yes h) = h
+      few (no h) = absurd (n (rules-beyond f (w .0) s (whole-of (w .2)) r (omega arith)))
+
+      is-r : Dec (r < brokenOf f t x s) → Dec (brokenOf f t x s < r) → brokenOf f t x s ≡ r
+      is-r (yes h) k = absurd (n (rules-below f (w .0) s (whole-of (w .2)) r h))
+      is-r (no h) (yes k) = absurd (rule-broken f (w .0) s (whole-of (w .2)) (omega (arith, few (decLt r 11))) (below _ k))
+      is-r (no h) (no k) = omega arith
+  only (overdrawn w h n y u below) =
+      let q : lowest (uncoveredAt f t x s) (t .nodes) ≡ n = lowest-is (uncoveredAt f t x s) (t .nodes) n low (y .0 .0) (here (uncoveredAt f t x s n) refl) in
+      sym (checked-whole w ∙ rw (le-ltb _ _ (none-broken w h), q, lt-ltb _ _ (y .0 .0)) refl)
+    where
+      here : (b : Bool) → uncoveredAt f t x s n ≡ b → uncoveredAt f t x s n ≡ true
+      here true e = e
+      here false e = absurd (u (covered-says f s (w .0) n (y .0 .0) e y))
+
+      low : NoneBelow (uncoveredAt f t x s) n
+      low m k = go (uncoveredAt f t x s m) refl
+        where
+          go : (b : Bool) → uncoveredAt f t x s m ≡ b → uncoveredAt f t x s m ≡ false
+          go true e = let v = uncovered-says f s (w .0) m (omega (arith, y .0 .0)) e in absurd (v .1 (below m k (v .0)))
+          go false e = e
+  only (accepted w h c) =
+      let q : lowest (uncoveredAt f t x s) (t .nodes) ≡ t .nodes = lowest-none (uncoveredAt f t x s) (t .nodes) (λ m l. go m l (uncoveredAt f t x s m) refl) in
+      sym (checked-whole w ∙ rw (le-ltb _ _ (none-broken w h), q, le-ltb (t .nodes) (t .nodes) (omega arith)) refl)
+    where
+      go : (m : ℕ) → m < t .nodes → (b : Bool) → uncoveredAt f t x s m ≡ b → uncoveredAt f t x s m ≡ false
+      go m l true e = let v = uncovered-says f s (w .0) m l e in absurd (v .1 (c m (v .0)))
+      go m l false e = e
+
+  -- No graph with an accepted sheet, made by anyone, has a run that overdraws.
+  pub safe : Checks f s Pass → (n : ℕ) → Overdraws (graphOf f) (doing (doesIn f t)) (openingIn f t) n → ⊥
+  safe c = go c refl
+    where
+      go : {a : Answer} → Checks f s a → a ≡ Pass → (n : ℕ) → Overdraws (graphOf f) (doing (doesIn f t)) (openingIn f t) n → ⊥
+      go (refused n) e = absurd (n e)
+      go (wrong-length p n) e = let z : _≡_ {A = ℕ} 10 0 = ap numberOf e in absurd (omega arith)
+      go (ill-formed p q b l h k) e = let z : _≡_ {A = ℕ} 11 0 = ap numberOf e in absurd (omega arith)
+      go (broken w r h n) e = let z : _≡_ {A = ℕ} 12 0 = ap numberOf e in absurd (omega arith)
+      go (overdrawn w h n y u k) e = let z : _≡_ {A = ℕ} 13 0 = ap numberOf e in absurd (omega arith)
+      go (accepted w h k) e = never-overdraws (setting f (w .0)) (sheet f s) h k
+
+  -- an answer that is the computed one has its meaning too
+  pub both-ensured : {r : Answer} → r ≡ checkOf f s → (r ≡ checkOf f s) × Checks f s r
+  both-ensured e = (e, subst (Checks f s) (sym e) checks)
+
+-- the sheet of a file that passes is within the limits
+pub within : (f : List ℕ) → judgeOf f ≡ Pass → Within (shapeOf (tablesOf f))
+within f p = let l = limits f p in record { few-methods = l .methods; few-nodes = l .nodes; few-types = l .types }

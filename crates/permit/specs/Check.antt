@@ -1,0 +1,47 @@
+-- What check answers, computed: the first that applies.
+use Prim.Native.Nat.{ℕ}
+use mathlib.Core.Bool.{Bool, cond, _&&_, not}
+use mathlib.Core.List.{List}
+use lib.ListN.{length}
+use lib.Dec.{ltb, eqb}
+use Rattle.words.specs.Lowest.{lowest}
+use Rattle.answer.specs.declared.Answer.{Answer}
+use Rattle.answer.specs.declared.Answer.the-variants.{Pass, BadSheet, BadBlock, Broken, Overdrawn}
+use Rattle.answer.specs.Number.{numberOf}
+use Rattle.effect.specs.Whole.{applyOf, coversOf}
+use Rattle.tables.specs.declared.Tables.{Tables}
+use Rattle.tables.specs.Trailer.{tablesOf}
+use Rattle.tables.specs.Kinds.{drawKind}
+use Rattle.tables.specs.Fields.{nodeMethod, nodeKind, nodeNumber, nodeRights}
+use Rattle.graph.specs.Judge.{judgeOf}
+use Rattle.layout.specs.declared.Shape.{Shape}
+use Rattle.layout.specs.Layout.{methodAt, nodeAt, blockCount, blockAt, sheetBytes}
+use Rattle.sheet.specs.Read.{stockAt, effectAt}
+use Rattle.formed.specs.Ill.{firstIll}
+use Rattle.demand.specs.Demand.{marked}
+use Rattle.rules.specs.Broken.{brokenOf}
+use Rattle.rules.specs.Sheet.{shapeOf}
+
+-- node n is a draw that is reached and not covered
+unfoldable pub uncoveredAt : List ℕ → Tables → Shape → List ℕ → ℕ → Bool
+uncoveredAt f t x s n =
+    eqb (nodeKind f t n) drawKind
+    && ((marked s (nodeAt x n) && marked s (methodAt x (nodeMethod f t n)))
+    && not
+    (coversOf (applyOf (effectAt s (x .types) (nodeAt x n)) (stockAt s (x .types) (methodAt x (nodeMethod f t n)))) (nodeNumber f t n)
+    (nodeRights f t n)))
+
+-- 12 a sheet rule is broken, 13 overdrawn, 0 pass
+unfoldable pub wholeSheet : List ℕ → Tables → Shape → List ℕ → Answer
+wholeSheet f t x s =
+    cond (ltb (brokenOf f t x s) 11) (Broken (brokenOf f t x s))
+    (cond (ltb (lowest (uncoveredAt f t x s) (t .nodes)) (t .nodes)) (Overdrawn (lowest (uncoveredAt f t x s) (t .nodes))) Pass)
+
+-- 10 the sheet's length is wrong, 11 a sheet block is ill formed
+unfoldable pub judgedSheet : List ℕ → Tables → Shape → List ℕ → Answer
+judgedSheet f t x s =
+    cond (eqb (length s) (sheetBytes x)) (cond (ltb (firstIll s x) (blockCount x)) (BadBlock (blockAt x (firstIll s x))) (wholeSheet f t x s)) BadSheet
+
+-- 1 to 9 of the file, then 10 to 13 and 0
+unfoldable pub checkOf : List ℕ → List ℕ → Answer
+checkOf f s = cond (eqb (numberOf (judgeOf f)) 0) (judgedSheet f (tablesOf f) (shapeOf (tablesOf f)) s) (judgeOf f)

@@ -1,0 +1,102 @@
+// Check: a graph file and a sheet from anybody in, the answer out. Both are only read.
+use answer::Answer;
+use layout::Shape;
+use tables::Tables;
+ghost use mathlib.Core.Path.{_≡_};
+ghost use Prim.Native.Nat.{_<_};
+ghost use Rattle.words.specs.Lowest.{lowest};
+ghost use Rattle.answer.specs.declared.Answer.the-variants.{Pass};
+ghost use Rattle.tables.specs.Trailer.{tablesOf};
+ghost use Rattle.graph.specs.Judge.{judgeOf, judgeIn};
+ghost use Rattle.layout.specs.Layout.{Within};
+ghost use Rattle.rules.specs.Sheet.{shapeOf};
+ghost use Rattle.permit.specs.Check.{uncoveredAt, judgedSheet, wholeSheet, checkOf};
+ghost use Rattle.permit.specs.Meaning.{Checks};
+
+// Node n is a draw, the sheet calls it reached, and its stock there does not cover it. Judged before the node's own step.
+fn uncovered(f: &[u8], t: Tables, x: Shape, s: &[u8], n: usize) -> bool
+    requires { ⌜ Within x × (n < 65536) ⌝ }
+    ensures { λ r. ⌜ r ≡ uncoveredAt (now (f .entry)) t x (now (s .entry)) n ⌝ }
+{
+    if tables::node_kind(f, t, n) != tables::DRAW {
+        return false;
+    }
+    let w = layout::node_at(x, n);
+    let v = layout::method_at(x, tables::node_method(f, t, n));
+    if demand::is_marked(s, w) & demand::is_marked(s, v) {
+        let held = effect::apply(sheet::effect(s, x.types, w), sheet::stock(s, x.types, v));
+        let number = tables::node_number(f, t, n);
+        let rights = tables::node_rights(f, t, n);
+        return !effect::covers(held, number, rights as u16);
+    }
+    false
+}
+
+// The lowest node that is not covered, or how many nodes there are.
+fn first_uncovered(f: &[u8], t: Tables, x: Shape, s: &[u8]) -> usize
+    requires { ⌜ Within x ⌝ }
+    ensures { λ r. ⌜ (r ≡ lowest (uncoveredAt (now (f .entry)) t x (now (s .entry))) (t .nodes)) × (r < 65536) ⌝ }
+{
+    let count = t.nodes as usize;
+    let mut n = 0;
+    while n < count {
+        if uncovered(f, t, x, s, n) {
+            return n;
+        }
+        n += 1;
+    }
+    count
+}
+
+// The rules and the draws, of a sheet with no ill-formed block.
+fn of_whole(f: &[u8], t: Tables, x: Shape, s: &[u8]) -> Answer
+    requires { ⌜ (judgeIn (now f) t ≡ Pass) × Within x ⌝ }
+    ensures { λ r. ⌜ r ≡ wholeSheet (now (f .entry)) t x (now (s .entry)) ⌝ }
+{
+    let rule = rules::broken(f, t, x, s);
+    if rule < 11 {
+        return Answer::Broken(rule as u16);
+    }
+    let n = first_uncovered(f, t, x, s);
+    if n < t.nodes as usize {
+        return Answer::Overdrawn(n as u16);
+    }
+    Answer::Pass
+}
+
+// One sheet, for a file that passes.
+fn of_judged(f: &[u8], t: Tables, x: Shape, s: &[u8]) -> Answer
+    requires { ⌜ (judgeIn (now f) t ≡ Pass) × Within x ⌝ }
+    ensures { λ r. ⌜ r ≡ judgedSheet (now (f .entry)) t x (now (s .entry)) ⌝ }
+{
+    if s.len() != layout::sheet_bytes(x) {
+        return Answer::BadSheet;
+    }
+    let b = formed::first_ill(s, x);
+    if b < layout::block_count(x) {
+        return Answer::BadBlock(layout::block_at(x, b) as u16);
+    }
+    of_whole(f, t, x, s)
+}
+
+fn shape(t: Tables) -> Shape
+    ensures { λ r. ⌜ r ≡ shapeOf t ⌝ }
+{
+    Shape {
+        methods: t.methods as usize,
+        nodes: t.nodes as usize,
+        types: t.types as usize,
+    }
+}
+
+pub fn check(f: &[u8], s: &[u8]) -> Answer
+    ensures equals { λ r. ⌜ r ≡ checkOf (now (f .entry)) (now (s .entry)) ⌝ }
+    ensures means { λ r. ⌜ Checks (now (f .entry)) (now (s .entry)) r ⌝ }
+{
+    let a = graph::judge(f);
+    if answer::number(a) == 0 {
+        let t = tables::read(f);
+        return of_judged(f, t, shape(t), s);
+    }
+    a
+}

@@ -1,0 +1,6 @@
+pub mod Rows
+pub mod Least
+pub mod Blocks
+pub mod Asked
+pub mod Row
+pub mod Exact

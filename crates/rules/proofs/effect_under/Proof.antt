@@ -1,0 +1,36 @@
+use mathlib.Core.Path.{_≡_, sym, ap, _∙_}
+use mathlib.Core.Bool.{true, false}
+use native.Mathlib.Omega.{arith}
+use denote.Ref.{now}
+use borrow.Author.Needs.{needs}
+use Rattle.effect.specs.Whole.{atMostOf}
+use Rattle.demand.specs.Demand.{marked}
+use Rattle.rules.specs.Tests.{effectUnder}
+use Rattle.rules.proofs.effect_under.Statement.{statement}
+use Rattle.rules.proofs.effect_under.Tie as tie
+
+returns : tie.Need-returns
+unfolding effectUnder
+returns c =
+    let mark = c .before .before .before in
+    let a = mark .before .before .args in
+    let m : marked (now (a .s)) (a .w) ≡ true = sym (mark .is-marked .ensures) ∙ c .before .before .if1 .taken in
+    c .at-most .ensures ∙ ap (λ v. atMostOf v (a .e)) (c .before .effect .ensures) ∙ simp m
+
+returns-2 : tie.Need-returns-2
+unfolding effectUnder
+returns-2 c =
+    let mark = c .before in
+    let a = mark .before .before .args in
+    let m : marked (now (a .s)) (a .w) ≡ false = sym (mark .is-marked .ensures) ∙ c .if1 .left in
+    simp m
+
+pub effect-under-spec : {M : Type 1} → statement M
+effect-under-spec =
+    tie.close
+    (tie.spec
+    (λ c κs. c .before .pre)
+    (λ c κs. c .before .before .before .pre)
+    (λ c κs. search needs)
+    returns
+    returns-2)

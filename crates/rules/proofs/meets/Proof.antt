@@ -1,0 +1,29 @@
+use mathlib.Core.Path.{_≡_, sym, ap, _∙_}
+use mathlib.Core.Bool.{true, false}
+use native.Mathlib.Omega.{arith}
+use denote.Ref.{now}
+use borrow.Author.Needs.{needs}
+use Rattle.rules.specs.Tests.{met}
+use Rattle.rules.proofs.meets.Statement.{statement}
+use Rattle.rules.proofs.meets.Tie as tie
+
+returns : tie.Need-returns
+unfolding met
+returns c =
+    let d : c .before .before .before .before .args .d .asks ≡ true = c .before .before .if1 .taken in
+    c .effect-under .ensures ∙ simp d
+
+returns-2 : tie.Need-returns-2
+unfolding met
+returns-2 c =
+    let d : c .before .before .args .d .asks ≡ false = c .if1 .left in
+    simp d
+
+pub meets-spec : {M : Type 1} → statement M
+meets-spec =
+    tie.close
+    (tie.spec
+    (λ c. search needs)
+    (λ c κs. search needs)
+    returns
+    returns-2)
