@@ -1,9 +1,8 @@
 -- What a node does and what a run starts with, at each case that the code tells apart.
 use Prim.Native.Nat.{ℕ, _<_, _≤_}
-use mathlib.Core.Path.{_≡_, refl, sym, ap, _∙_}
+use mathlib.Core.Path.{_≡_, sym, ap, _∙_}
 use mathlib.Core.List.{List}
 use borrow.Author.Tests.{lt-ltb, le-ltb, le-leb, lt-leb, eq-eqb, ne-eqb}
-use Rattle.single.specs.declared.Held.{Held}
 use Rattle.effect.specs.declared.Effect.{Effect}
 use Rattle.effect.specs.Six.{noneHeld}
 use Rattle.effect.specs.Whole.{nothingDone, drawOf, grantOf}

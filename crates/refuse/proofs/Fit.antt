@@ -1,6 +1,6 @@
 -- What each row that is not refused ensures, table by table.
 use mathlib.Core.Path.{_≡_}
-use mathlib.Core.Bool.{true, false, not, _&&_}
+use mathlib.Core.Bool.{false, not, _&&_}
 use mathlib.Core.Logic.{_⊎_}
 use mathlib.Core.List.{List}
 use Prim.Native.Nat.{ℕ, _+_, _-_, _<_, _≤_}
@@ -13,7 +13,7 @@ use Rattle.tables.specs.declared.Tables.{Tables}
 use Rattle.tables.specs.Trailer.{trailer}
 use Rattle.tables.specs.Kinds.{grantKind, drawKind, callKind, returnKind, throwKind}
 use Rattle.tables.specs.Fields.{entryOf, nodeMethod, nodeKind, nodeNumber, nodeCount, flowFrom, flowTo, callNode, callMethod, catchFrom, catchException, catchTo, openingCount}
-use Rattle.refuse.specs.Bad.{above, notAbove, flowRow, callRow, catchRow, fewest, most, countBad, lengthBad, entryBad, outOfRange, nodeBad, flowBad, callBad, throwsOther, catchBad, openingBad}
+use Rattle.refuse.specs.Bad.{notAbove, flowRow, callRow, catchRow, fewest, most, countBad, lengthBad, entryBad, outOfRange, nodeBad, flowBad, callBad, throwsOther, catchBad, openingBad}
 use Rattle.refuse.proofs.Order.{pair-rises, triple-rises, Rises, none-twice}
 
 rises : (row : ℕ → List ℕ) (k : ℕ) → notAbove row k ≡ false → Rises row k

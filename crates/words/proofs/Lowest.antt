@@ -1,9 +1,9 @@
 -- `lowest` is what its comment says, and a loop that counts upwards and stops at the first hit computes it.
-use Prim.Native.Nat.{ℕ, zero, suc, _+_, _<_, _≤_}
+use Prim.Native.Nat.{ℕ, zero, suc, _<_, _≤_}
 use mathlib.Core.Path.{_≡_, refl, sym, _∙_}
 use mathlib.Core.Bool.{Bool, true, false, cond}
 use lib.Dec.{ltb}
-use borrow.Author.Tests.{lt-ltb, le-ltb, ltb-true, ltb-false}
+use borrow.Author.Tests.{le-ltb, ltb-true, ltb-false}
 use native.Mathlib.Nat.{le-refl, lt-irrefl, not-suc-le-zero}
 use borrow.Author.Count.{below-more}
 use native.Mathlib.Omega.{arith}
