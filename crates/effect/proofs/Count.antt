@@ -118,7 +118,7 @@ unfolding countAfter
 after-then c d e f r = ap counted (left-then c d e f r)
 
 -- both is the smaller count
-min-swap : (c e x y : ℕ) → min (min c e) (min x y) ≡ min (min c x) (min e y)
+pub min-swap : (c e x y : ℕ) → min (min c e) (min x y) ≡ min (min c x) (min e y)
 min-swap c e x y = omega arith
 
 left-both : (c d e f r : ℕ) → left (min c e) (largerDrop d f) r ≡ min (left c d r) (left e f r)

@@ -1,20 +1,21 @@
 -- The laws of stocks and effects, for every value unless a premise says otherwise.
 --   then is composition      apply-then, then-assoc, then-mono, then-both-l, then-both-r
---   both is the smaller      apply-both, apply-lower, both-comm, both-left, both-right, both-greatest
---   nothing done             apply-nothing
+--   both is the smaller      apply-both, apply-lower, both-comm, both-left, both-right, both-greatest, both-same, lower-same
+--   nothing done             apply-nothing, then-nothing-l, then-nothing-r
 --   every result is normal   nothing-normal, draw-normal, grant-normal, then-normal, both-normal, form-kept
 --   the tests are exact      stock-sound, stock-complete, at-most-sound, at-most-complete
---   the order                apply-mono, at-most-refl, at-most-trans, at-most-anti, canonical
+--   the order                apply-mono, at-most-refl, at-most-trans, at-most-anti, stock-anti, canonical
 use Prim.Native.Nat.{ℕ, _≤_, _<_, min}
-use mathlib.Core.Path.{_≡_, refl, sym, _∙_, ap}
+use mathlib.Core.Path.{_≡_, refl, sym, subst, _∙_, ap}
 use mathlib.Core.Bool.{Bool, true, false}
 use native.Mathlib.Omega.{arith}
 use native.Mathlib.Decide.{decLt}
+use native.Mathlib.Nat.{min-eq-left}
 use lib.Dec.{eqb}
-use lib.Bits.{and-comm}
+use lib.Bits.{bitOr, and-comm, and-le-r}
 use Rattle.single.specs.declared.Held.{Held}
 use Rattle.single.specs.declared.One.{One}
-use Rattle.single.specs.Number.{rightsAfter, countAfter, normDrop, within}
+use Rattle.single.specs.Number.{counted, rightsAfter, countAfter, normDrop, within}
 use Rattle.single.specs.Single.{normalForm, normalOne, idle, drawn, granted, applyOne, thenOne, bothOne, atMostOne, heldAtMost, lowerHeld}
 use Rattle.effect.specs.declared.Stock.{Stock}
 use Rattle.effect.specs.declared.Effect.{Effect}
@@ -23,7 +24,7 @@ use Rattle.effect.specs.Whole.{normalOf, nothingDone, oneIf, drawOf, gra
 use Rattle.effect.specs.Meaning.{bit, HeldBelow, Below, AtMost}
 use Rattle.effect.proofs.Bit.{bit-and, bit-ext, bit-high}
 use Rattle.effect.proofs.Rights.{bit-after, rights-nothing}
-use Rattle.effect.proofs.Count.{after-nothing}
+use Rattle.effect.proofs.Count.{after-nothing, after-mono, after-top}
 use Rattle.effect.proofs.Six.{all-i, all-e, stock-at, among-ext, SixHeld, SixOnes}
 use Rattle.effect.proofs.Single.{form-normal, form-same, one-then, one-both, one-lower, one-mono, held-sound, held-complete, one-refl, one-trans, one-sound, one-complete, one-anti}
 
@@ -85,6 +86,10 @@ pub applied-at : (e : Effect) (s : Stock) (k : ℕ) → k < 6 → heldAt (applyO
 unfolding applyOf
 applied-at e s = stock-at (λ k. applyOne (oneAt e k) (heldAt s k))
 
+pub applied-six : (e : Effect) (s : Stock) → SixHeld (applyOf e s)
+unfolding applyOf
+applied-six e s = refl
+
 pub lower-at : (s t : Stock) (k : ℕ) → k < 6 → heldAt (lowerOf s t) k ≡ lowerHeld (heldAt s k) (heldAt t k)
 unfolding lowerOf
 lower-at s t = stock-at (λ k. lowerHeld (heldAt s k) (heldAt t k))
@@ -109,6 +114,30 @@ stock-sound s t q k h = held-sound (heldAt s k) (heldAt t k) (all-e (λ k. heldA
 pub stock-complete : (s t : Stock) → Below s t → stockAtMostOf s t ≡ true
 unfolding stockAtMostOf
 stock-complete s t q = all-i (λ k. heldAtMost (heldAt s k) (heldAt t k)) (λ k h. held-complete (heldAt s k) (heldAt t k) (q k h))
+
+-- no count above 255
+abbrev pub Counts : Stock → Type 0
+Counts s = (k : ℕ) → k < 6 → heldAt s k .count ≤ 255
+
+held-anti : (h g : Held) → h .count ≤ 255 → g .count ≤ 255 → heldAtMost h g ≡ true → heldAtMost g h ≡ true → h ≡ g
+held-anti h g c d p q =
+    let a = held-sound h g p in
+    let b = held-sound g h q in
+    let e : h .count ≡ g .count = omega (arith, a .the-count, b .the-count) in
+    λ i. record {
+      rights = bit-ext (h .rights) (g .rights) (λ k. omega (arith, a .every-right k, b .every-right k)) i;
+      count = e i;
+    }
+
+pub stock-anti : (s t : Stock) → SixHeld s → SixHeld t → Counts s → Counts t → stockAtMostOf s t ≡ true → stockAtMostOf t s ≡ true → s ≡ t
+unfolding stockAtMostOf
+stock-anti s t u v c d p q =
+    sym u
+    ∙ ap stockOf
+    (among-ext (heldAt s) (heldAt t)
+    (λ k h. held-anti (heldAt s k) (heldAt t k) (c k h) (d k h) (all-e (λ k. heldAtMost (heldAt s k) (heldAt t k)) p k h)
+    (all-e (λ k. heldAtMost (heldAt t k) (heldAt s k)) q k h)))
+    ∙ v
 
 pub apply-mono : (e : Effect) (s t : Stock) → Below s t → Below (applyOf e s) (applyOf e t)
 apply-mono e s t q k h =
@@ -140,6 +169,24 @@ lower-greatest u s t p q k h =
       every-right = λ j. omega (arith, bit-and j (heldAt s k .rights) (heldAt t k .rights), a .every-right j, b .every-right j);
       the-count = omega (arith, a .the-count, b .the-count);
     })
+
+held-same : (h g : Held) → h .count ≤ 255 → heldAtMost h g ≡ true → lowerHeld h g ≡ h
+unfolding lowerHeld
+held-same h g c t =
+    let l = held-sound h g t in
+    let e : min (h .count) (g .count) ≡ h .count = omega (arith, l .the-count) in
+    λ i. record {
+      rights = bit-ext _ (h .rights) (λ b. bit-and b (h .rights) (g .rights) ∙ min-eq-left (l .every-right b)) i;
+      count = e i;
+    }
+
+pub lower-same : (s t : Stock) → SixHeld s → Counts s → stockAtMostOf s t ≡ true → lowerOf s t ≡ s
+unfolding lowerOf stockAtMostOf
+lower-same s t v c q =
+    ap stockOf
+    (among-ext (λ k. lowerHeld (heldAt s k) (heldAt t k)) (heldAt s)
+    (λ k h. held-same (heldAt s k) (heldAt t k) (c k h) (all-e (λ k. heldAtMost (heldAt s k) (heldAt t k)) q k h)))
+    ∙ v
 
 -- the test of effects is the meaning
 pub at-most-sound : (a b : Effect) → atMostOf a b ≡ true → AtMost a b
@@ -231,18 +278,69 @@ both-greatest c a b n p q =
     at-most-complete c (bothOf a b) n
     (λ s. rw (apply-both a b s) (lower-greatest (applyOf c s) (applyOf a s) (applyOf b s) (at-most-sound c a p s) (at-most-sound c b q s)))
 
+-- and the smaller of two, where one is at most the other, is that one
+pub both-same : (a b : Effect) → normalOf a ≡ true → SixOnes a → atMostOf a b ≡ true → bothOf a b ≡ a
+unfolding bothOf
+both-same a b n v t =
+    at-most-anti (bothOf a b) a (both-normal a b) n refl v (both-left a b) (both-greatest a a b n (at-most-refl a) t)
+
 -- nothing done changes nothing of a stock whose rights are words and whose counts are at most 255
-idle-same : (h : Held) → h .rights < 65536 → h .count ≤ 255 → applyOne idle h ≡ h
+abbrev pub Fits : Held → Type 0
+Fits h = (h .rights < 65536) × (h .count ≤ 255)
+
+idle-same : (h : Held) → Fits h → applyOne idle h ≡ h
 unfolding applyOne idle
-idle-same h w c =
+idle-same h f =
     let n : (b : ℕ) → bit b (rightsAfter 0 65535 (h .rights)) ≡ bit b (h .rights) = λ b. elim (decLt b 16) [
       | yes l ↦ rights-nothing b (h .rights) l
-      | no l ↦ omega (arith, bit-high 16 b (h .rights) w (omega arith), bit-high 16 b 65535 (omega arith) (omega arith), bit-after b 0 65535 (h .rights))
+      | no l ↦ omega (arith, bit-high 16 b (h .rights) (f .0) (omega arith), bit-high 16 b 65535 (omega arith) (omega arith), bit-after b 0 65535 (h .rights))
     ] in
-    let e : countAfter 255 0 (h .count) ≡ h .count = omega (arith, after-nothing (h .count)) in
+    let e : countAfter 255 0 (h .count) ≡ h .count = omega (arith, f .1, after-nothing (h .count)) in
     λ i. record { rights = bit-ext (rightsAfter 0 65535 (h .rights)) (h .rights) n i; count = e i }
 
-pub apply-nothing : (s : Stock) → SixHeld s → ((k : ℕ) → k < 6 → (heldAt s k .rights < 65536) × (heldAt s k .count ≤ 255)) → applyOf nothingDone s ≡ s
+pub apply-nothing : (s : Stock) → SixHeld s → ((k : ℕ) → k < 6 → Fits (heldAt s k)) → applyOf nothingDone s ≡ s
 unfolding applyOf nothingDone
 apply-nothing s v h =
-    ap stockOf (among-ext (λ k. applyOne idle (heldAt s k)) (heldAt s) (λ k l. idle-same (heldAt s k) (h k l .0) (h k l .1))) ∙ v
+    ap stockOf (among-ext (λ k. applyOne idle (heldAt s k)) (heldAt s) (λ k l. idle-same (heldAt s k) (h k l))) ∙ v
+
+-- and before or after an effect whose keep-max are words, nothing
+abbrev pub Words : Effect → Type 0
+Words e = (k : ℕ) → k < 6 → oneAt e k .keepmax < 65536
+
+idle-first : (x : One) → x .keepmax < 65536 → (h : Held) → applyOne x (applyOne idle h) ≡ applyOne x h
+unfolding applyOne idle
+idle-first x w h =
+    let r = rightsAfter 0 65535 (h .rights) in
+    let n : (b : ℕ) → bit b (rightsAfter (x .keepin) (x .keepmax) r) ≡ bit b (rightsAfter (x .keepin) (x .keepmax) (h .rights)) =
+    λ b. let p = bit-after b (x .keepin) (x .keepmax) r in
+    let q = bit-after b (x .keepin) (x .keepmax) (h .rights) in
+    elim (decLt b 16) [
+      | yes l ↦ omega (arith, rights-nothing b (h .rights) l)
+      | no l ↦ omega (arith, bit-high 16 b (x .keepmax) w (omega arith))
+    ] in
+    let c = countAfter 255 0 (h .count) in
+    let k : counted c ≡ counted (h .count) = omega (arith, after-nothing (h .count)) in
+    let e : countAfter (x .cap) (x .drop) c ≡ countAfter (x .cap) (x .drop) (h .count) =
+    omega (arith, after-mono (x .cap) (x .drop) c (h .count) (omega arith), after-mono (x .cap) (x .drop) (h .count) c (omega arith)) in
+    λ i. record { rights = bit-ext _ _ n i; count = e i }
+
+pub then-nothing-l : (a : Effect) → normalOf a ≡ true → SixOnes a → Words a → thenOf nothingDone a ≡ a
+unfolding applyOf nothingDone thenOf
+then-nothing-l a n v w =
+    canonical (thenOf nothingDone a) a (then-normal nothingDone a) n refl v
+    (λ s. apply-then nothingDone a s
+    ∙ ap stockOf
+    (among-ext (λ k. applyOne (oneAt a k) (applyOne idle (heldAt s k))) (λ k. applyOne (oneAt a k) (heldAt s k))
+    (λ k h. idle-first (oneAt a k) (w k h) (heldAt s k))))
+
+left-fits : (x : One) (h : Held) → x .keepmax < 65536 → Fits (applyOne x h)
+unfolding applyOne rightsAfter
+left-fits x h w =
+    (omega (arith, and-le-r (bitOr (h .rights) (x .keepin)) (x .keepmax)), after-top (x .cap) (x .drop) (h .count))
+
+pub then-nothing-r : (a : Effect) → normalOf a ≡ true → SixOnes a → Words a → thenOf a nothingDone ≡ a
+unfolding thenOf
+then-nothing-r a n v w =
+    canonical (thenOf a nothingDone) a (then-normal a nothingDone) n refl v
+    (λ s. apply-then a nothingDone s
+    ∙ apply-nothing (applyOf a s) (applied-six a s) (λ k h. subst Fits (sym (applied-at a s k h)) (left-fits (oneAt a k) (heldAt s k) (w k h))))

@@ -7,6 +7,7 @@ use lib.Bits.{bitAnd, bitOr}
 use Rattle.single.specs.Number.{rightsAfter}
 use Rattle.effect.specs.Meaning.{bit}
 use Rattle.effect.proofs.Bit.{bit-lt, bit-and, bit-or, bit-ext, bit-none, bit-ones}
+use Rattle.effect.proofs.Count.{min-swap}
 
 pub bit-after : (b i m r : ℕ) → bit b (rightsAfter i m r) ≡ min (max (bit b r) (bit b i)) (bit b m)
 unfolding rightsAfter
@@ -17,9 +18,6 @@ max-min a b c = omega arith
 
 max-assoc : (a b c : ℕ) → max (max a b) c ≡ max a (max b c)
 max-assoc a b c = omega arith
-
-min-swap : (p q m n : ℕ) → min (min p q) (min m n) ≡ min (min p m) (min q n)
-min-swap p q m n = omega arith
 
 -- normal form changes no result
 lattice-norm : (r i m : ℕ) → min (max r (min i m)) m ≡ min (max r i) m

@@ -1,6 +1,6 @@
 -- The six types: what a stock and an effect are at each, and the stock and the effect that are given at each.
 use Prim.Native.Nat.{ℕ, zero, suc}
-use mathlib.Core.Bool.{Bool, _&&_}
+use mathlib.Core.Bool.{Bool, true, false, _&&_}
 use mathlib.Core.List.{List, [], _∷_}
 use lib.ListN.{getD}
 use Rattle.single.specs.declared.Held.{Held}
@@ -29,6 +29,14 @@ heldAt s k = record { rights = getD (s .rights) k 0; count = getD (s .counts) k 
 
 abbrev pub stockOf : (ℕ → Held) → Stock
 stockOf f = record { rights = six (λ k. f k .rights); counts = six (λ k. f k .count) }
+
+-- h where the test holds, else g; and what is held where nothing is
+abbrev pub heldIf : Bool → Held → Held → Held
+heldIf true h g = h
+heldIf false h g = g
+
+abbrev pub noneHeld : Held
+noneHeld = record { rights = 0; count = 0 }
 
 -- "An effect tells, for each type, what is left after a stretch"
 abbrev pub oneAt : Effect → ℕ → One

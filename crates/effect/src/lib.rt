@@ -231,7 +231,8 @@ pub fn both(a: Effect, b: Effect) -> Effect
     )
 }
 
-// One effect leaves at most what another leaves, of every stock.
+// The test that one effect is at most another. Of a normal effect it holds exactly if it leaves at most what the other leaves,
+// of every stock (at-most-sound and at-most-complete, in proofs/Laws.antt).
 pub fn at_most(a: Effect, b: Effect) -> bool
     ensures { λ r. ⌜ r ≡ atMostOf a b ⌝ }
 {

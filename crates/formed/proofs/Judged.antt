@@ -1,15 +1,13 @@
 -- What it says of a block that it is not ill formed.
-use Prim.Native.Nat.{ℕ, zero, suc, _+_, _-_, _≤_, _<_}
+use Prim.Native.Nat.{ℕ, _+_, _-_, _≤_, _<_}
 use mathlib.Core.Path.{_≡_, refl, sym, ap}
 use mathlib.Core.Bool.{Bool, true, false, cond, not, true≢false}
 use mathlib.Core.List.{List}
 use lib.Dec.{ltb, leb, eqb}
 use lib.ListN.{getD}
-use borrow.Author.Tests.{ltb-false, leb-true, eqb-true, not-false}
-use native.Mathlib.Nat.{le-refl}
+use borrow.Author.Tests.{leb-true, eqb-true, not-false}
 use native.Mathlib.Omega.{arith}
-use Rattle.words.specs.Lowest.{lowest}
-use Rattle.words.proofs.Lowest.{is-lowest}
+use Rattle.words.proofs.Lowest.{none-found, lowest-same}
 use Rattle.layout.specs.declared.Shape.{Shape}
 use Rattle.layout.specs.Layout.{stockSize, effectSize, isStock, blockSize, blockAt}
 use Rattle.layout.proofs.Blocks.{size-pos}
@@ -28,9 +26,8 @@ AllZero s w n = (v : ℕ) → w ≤ v → v < w + n → sheetWord s v ≡ 0
 pub all-zero : (s : List ℕ) (w n : ℕ) → someWord s w n ≡ false → AllZero s w n
 unfolding someWord
 all-zero s w n h v l u =
-    let q : n ≤ lowest (notZero s w) n = ltb-false (lowest (notZero s w) n) n h in
     let e : w + (v - w) ≡ v = omega arith in
-    let z = is-lowest (notZero s w) n .before (v - w) (omega arith) in
+    let z = none-found (notZero s w) n h (v - w) (omega arith) in
     rw e at (eqb-true (sheetWord s (w + (v - w))) 0 (not-false _ z))
 
 pub no-word : (s : List ℕ) (w n : ℕ) → AllZero s w n → someWord s w n ≡ false
@@ -94,14 +91,6 @@ module _ (s : List ℕ) (x : Shape) (b : ℕ) where
   pub effect-formed : isStock x b ≡ false → markAt s (blockAt x b) ≡ 1 → normalOf (effectAt s (x .types) (blockAt x b)) ≡ true → illBlock s x b ≡ false
   unfolding illBlock
   effect-formed q m h = rw (m, q, h)
-
-lowest-same : (p q : ℕ → Bool) (n : ℕ) → ((k : ℕ) → k < n → p k ≡ q k) → lowest p n ≡ lowest q n
-unfolding lowest
-lowest-same p q zero h = refl
-lowest-same p q (suc n) h =
-    let a : lowest p n ≡ lowest q n = lowest-same p q n (λ k l. h k (omega arith)) in
-    let b : p n ≡ q n = h n (le-refl (suc n)) in
-    λ i. cond (ltb (a i) n) (a i) (cond (b i) n (suc n))
 
 some-same : (s r : List ℕ) (w n : ℕ) → SameWords s r w n → someWord s w n ≡ someWord r w n
 unfolding someWord

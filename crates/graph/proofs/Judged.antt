@@ -5,10 +5,9 @@ use mathlib.Core.List.{List}
 use Prim.Native.Nat.{ℕ, _<_, _≤_}
 use native.Mathlib.Omega.{arith}
 use lib.ListN.{length}
-use lib.Dec.{ltb, lit<}
+use lib.Dec.{lit<}
 use borrow.Author.Tests.{ltb-false}
-use Rattle.words.specs.Lowest.{lowest}
-use Rattle.words.proofs.Lowest.{NoneBelow, is-lowest}
+use Rattle.words.proofs.Lowest.{NoneBelow, none-found}
 use Rattle.answer.specs.declared.Answer.{Answer}
 use Rattle.answer.specs.declared.Answer.the-variants.{Pass, TooShort, BadCount, BadLength, BadEntry, BadNode, BadFlow, BadCall, BadCatch, BadOpening}
 use Rattle.answer.specs.Number.{numberOf}
@@ -23,9 +22,8 @@ cond-pass false refusal next h l = (refl, h)
 
 rows-pass : (bad : ℕ → Bool) (n : ℕ) (answer : ℕ → Answer) (next : Answer) → refused bad n answer next ≡ Pass → ((k : ℕ) → 0 < numberOf (answer k)) → NoneBelow bad n × (next ≡ Pass)
 rows-pass bad n answer next h l =
-    let w = cond-pass (ltb (lowest bad n) n) (answer (lowest bad n)) next h (l (lowest bad n)) in
-    let u : n ≤ lowest bad n = ltb-false (lowest bad n) n (w .0) in
-    (λ k v. is-lowest bad n .before k (omega arith), w .1)
+    let w = cond-pass _ _ next h (l _) in
+    (none-found bad n (w .0), w .1)
 
 -- what holds of a file whose trailer says t and that passes
 pub record Judged (f : List ℕ) (t : Tables) : Type 0 where

@@ -1,19 +1,26 @@
--- The graph of a file that passes is well formed.
-use mathlib.Core.Path.{_≡_}
+-- The graph of a file that passes is well formed; a file that is too long is refused for its counts or its length.
+use mathlib.Core.Path.{_≡_, refl}
+use mathlib.Core.Bool.{Bool, true, false, cond}
+use mathlib.Core.Logic.{_⊎_, inl, inr}
 use mathlib.Core.List.{List}
 use Prim.Native.Nat.{ℕ, _<_, _≤_}
 use native.Mathlib.Omega.{arith}
 use lib.ListN.{length}
-use lib.Dec.{lit<}
-use Rattle.answer.specs.declared.Answer.the-variants.{Pass}
+use lib.Dec.{ltb, lit<}
+use borrow.Author.Tests.{le-ltb}
+use Rattle.words.specs.Lowest.{lowest}
+use Rattle.words.proofs.Lowest.{NoneBelow, none-found}
+use Rattle.answer.specs.declared.Answer.{Answer}
+use Rattle.answer.specs.declared.Answer.the-variants.{Pass, BadCount, BadLength}
+use Rattle.answer.specs.Number.{numberOf}
 use Rattle.model.proofs.Formed.{Formed}
 use Rattle.tables.specs.declared.Tables.{Tables}
 use Rattle.tables.specs.Trailer.{trailer, tablesOf}
-use Rattle.graph.specs.Judge.{judgeOf}
+use Rattle.graph.specs.Judge.{judgeIn, judgeOf}
 use Rattle.graph.specs.Graph.{graphOf}
 use Rattle.graph.proofs.Judged.{judged}
 use Rattle.tables.proofs.Counts.{methods-are, nodes-are, flows-are, calls-are, catches-are, types-are, end-is}
-use Rattle.refuse.specs.Bad.{fewest, most}
+use Rattle.refuse.specs.Bad.{fewest, most, countBad, lengthBad}
 use Rattle.refuse.proofs.Fit.{count-fit, length-fit, entry-fit, node-fit, flow-fit, call-fit, catch-fit}
 
 -- the limits of the counts
@@ -28,9 +35,9 @@ pub record Limits (t : Tables) : Type 0 where
   pub some-type : 0 < t .types
   pub types : t .types ≤ 6
 
-pub limits : (f : List ℕ) → judgeOf f ≡ Pass → Limits (tablesOf f)
-limits f h =
-    let c : (i : ℕ) → i < 6 → (fewest i ≤ trailer f i) × (trailer f i ≤ most i) = λ i l. count-fit f (tablesOf f) i (judged f (tablesOf f) h .counts i l) in
+within-limits : (f : List ℕ) → NoneBelow (countBad f) 6 → Limits (tablesOf f)
+within-limits f h =
+    let c : (i : ℕ) → i < 6 → (fewest i ≤ trailer f i) × (trailer f i ≤ most i) = λ i l. count-fit f (tablesOf f) i (h i l) in
     record {
       some-method = rw (methods-are f) (c 0 (lit< tt) .0);
       methods = rw (methods-are f) (c 0 (lit< tt) .1);
@@ -42,6 +49,9 @@ limits f h =
       some-type = rw (types-are f) (c 5 (lit< tt) .0);
       types = rw (types-are f) (c 5 (lit< tt) .1);
     }
+
+pub limits : (f : List ℕ) → judgeOf f ≡ Pass → Limits (tablesOf f)
+limits f h = within-limits f (judged f (tablesOf f) h .counts)
 
 pub formed : (f : List ℕ) → judgeOf f ≡ Pass → Formed (graphOf f)
 formed f h =
@@ -59,9 +69,22 @@ formed f h =
       eight-exceptions = λ n e w. rw (← w .1) (omega (arith, node-fit f t n (j .nodes n (w .0 .0)) .exception (w .0 .1)));
     }
 
--- The longest file has 12,454 bytes.
-pub longest : (f : List ℕ) → judgeOf f ≡ Pass → length f ≤ 12454
-longest f h =
-    let l = limits f h in
-    let e = length-fit f (tablesOf f) (judged f (tablesOf f) h .whole) in
-    omega (arith, end-is f)
+-- "The longest file has 12,440 + 14 = 12,454 bytes."
+longest : (f : List ℕ) → Limits (tablesOf f) → lengthBad f (tablesOf f) ≡ false → length f ≤ 12454
+longest f l h =
+    let e = length-fit f (tablesOf f) h in
+    omega (arith, end-is f, l .methods, l .nodes, l .flows, l .calls, l .catches, l .types)
+
+first-two : (a b : Bool) (i : ℕ) (next : Answer) → (a ≡ false → b ≡ false → ⊥)
+    → (numberOf (cond a (BadCount i) (cond b BadLength next)) ≡ 2) ⊎ (numberOf (cond a (BadCount i) (cond b BadLength next)) ≡ 3)
+first-two true b i next h = inl refl
+first-two false true i next h = inr refl
+first-two false false i next h = absurd (h refl refl)
+
+-- a longer one is answered 2 or 3
+pub too-long : (f : List ℕ) → 12454 < length f → (numberOf (judgeOf f) ≡ 2) ⊎ (numberOf (judgeOf f) ≡ 3)
+unfolding judgeIn
+too-long f l =
+    rw (le-ltb (length f) 14 (omega arith))
+    (first-two (ltb (lowest (countBad f) 6) 6) (lengthBad f (tablesOf f)) _ _
+    (λ p q. omega (arith, longest f (within-limits f (none-found (countBad f) 6 p)) q)))

@@ -100,6 +100,7 @@ fn judge_rows(f: &[u8], t: Tables) -> Answer
     refused(f, t, Table::Methods, nodes)
 }
 
+// Pass says that nothing refuses the file; whether a run overdraws is for the operations above to say.
 pub fn judge(f: &[u8]) -> Answer
     ensures { λ r. ⌜ r ≡ judgeOf (now (f .entry)) ⌝ }
 {

@@ -4,18 +4,18 @@ use mathlib.Core.Bool.{Bool, true, false}
 use Prim.Native.Nat.{ℕ, _-_, _≤_, _<_}
 use native.Mathlib.Decide.{ℕ-discrete}
 use native.Mathlib.Omega.{arith}
-use lib.Dec.{leb, eqb}
+use lib.Dec.{eqb}
 use borrow.Author.Tests.{eq-eqb, ne-eqb}
 use Rattle.single.specs.declared.Held.{Held}
-use Rattle.single.specs.Number.{counted, less, pick}
+use Rattle.single.specs.Number.{counted, less}
 use Rattle.effect.specs.declared.Stock.{Stock}
-use Rattle.effect.specs.Six.{heldAt}
+use Rattle.effect.specs.Six.{heldAt, heldIf}
 use Rattle.effect.specs.Whole.{applyOf, coversOf}
 use Rattle.effect.specs.Coordinate.{Coordinate, right, count, at, Asked}
 use Rattle.effect.proofs.Count.{less-one, less-counted}
 use Rattle.effect.proofs.Six.{stock-at}
 use Rattle.effect.proofs.Coordinate.{typeOf, type-lt, seen, at-seen, apply-mono, apply-nothing, apply-then, apply-both, at-lower, grant-hit, grant-other, draw-count, draw-right, draw-other, covers-asked, uncovered}
-use Rattle.model.specs.Stocks.{permits, Does, plain, grant, draw, heldIf, holding, oneTaken, done, Covered, doing, stepOf}
+use Rattle.model.specs.Stocks.{permits, Does, plain, grant, draw, holding, oneTaken, done, Covered, doing, stepOf}
 use Rattle.model.proofs.Setting.{Laws, Told}
 
 pub laws : Laws permits

@@ -1,13 +1,13 @@
 -- Document 01's stocks and effects, in the places that the machine and the rules leave for them.
 use mathlib.Core.Path.{_≡_}
-use mathlib.Core.Bool.{Bool, true, false}
+use mathlib.Core.Bool.{true}
 use Prim.Native.Nat.{ℕ, _-_}
 use lib.Dec.{leb, eqb}
 use Rattle.single.specs.declared.Held.{Held}
 use Rattle.single.specs.Number.{pick}
 use Rattle.effect.specs.declared.Stock.{Stock}
 use Rattle.effect.specs.declared.Effect.{Effect}
-use Rattle.effect.specs.Six.{heldAt, stockOf}
+use Rattle.effect.specs.Six.{heldAt, stockOf, heldIf}
 use Rattle.effect.specs.Whole.{nothingDone, drawOf, grantOf, applyOf, thenOf, bothOf, lowerOf, coversOf}
 use Rattle.effect.specs.Coordinate.{Coordinate, at}
 use Rattle.model.specs.Machine.{Doing}
@@ -33,10 +33,6 @@ pub data Does : Type 0 where
   draw : (t p : ℕ) → Does
 
 -- the stock s with h for what it holds of type t
-abbrev pub heldIf : Bool → Held → Held → Held
-heldIf true h g = h
-heldIf false h g = g
-
 unfoldable pub holding : ℕ → Held → Stock → Stock
 holding t h s = stockOf (λ k. heldIf (eqb k t) h (heldAt s k))
 

@@ -1,10 +1,10 @@
 -- What a node does and what a run starts with, at each case that the code tells apart.
 use Prim.Native.Nat.{ℕ, _<_, _≤_}
-use mathlib.Core.Path.{_≡_, refl, sym, ap, _∙_}
+use mathlib.Core.Path.{_≡_, sym, ap, _∙_}
 use mathlib.Core.List.{List}
 use borrow.Author.Tests.{lt-ltb, le-ltb, le-leb, lt-leb, eq-eqb, ne-eqb}
-use Rattle.single.specs.declared.Held.{Held}
 use Rattle.effect.specs.declared.Effect.{Effect}
+use Rattle.effect.specs.Six.{noneHeld}
 use Rattle.effect.specs.Whole.{nothingDone, drawOf, grantOf}
 use Rattle.model.specs.Stocks.{Does, plain, grant, draw, stepOf}
 use Rattle.tables.specs.declared.Tables.{Tables}
@@ -49,6 +49,6 @@ module _ (f : List ℕ) (t : Tables) (k : ℕ) where
   unfolding openingAt
   opening-some r c h p q = simp (lt-ltb k (t .types) h) (λ i. record { rights = p i; count = q i })
 
-  pub opening-none : t .types ≤ k → record { rights = 0; count = 0 } ≡ openingAt f t k
+  pub opening-none : t .types ≤ k → noneHeld ≡ openingAt f t k
   unfolding openingAt
   opening-none h = simp (le-ltb k (t .types) h)

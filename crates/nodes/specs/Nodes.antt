@@ -5,8 +5,8 @@ use mathlib.Core.List.{List}
 use lib.Dec.{ltb, leb, eqb}
 use Rattle.single.specs.declared.Held.{Held}
 use Rattle.effect.specs.declared.Stock.{Stock}
-use Rattle.effect.specs.Six.{stockOf}
-use Rattle.model.specs.Stocks.{Does, plain, grant, draw, heldIf}
+use Rattle.effect.specs.Six.{stockOf, heldIf, noneHeld}
+use Rattle.model.specs.Stocks.{Does, plain, grant, draw}
 use Rattle.tables.specs.declared.Tables.{Tables}
 use Rattle.tables.specs.Kinds.{grantKind, drawKind}
 use Rattle.tables.specs.Fields.{nodeKind, nodeNumber, nodeCount, nodeRights, openingRights, openingCount}
@@ -24,7 +24,7 @@ doesIn f t n =
 
 -- "opening stock: rights, count", for the types that the file has
 unfoldable pub openingAt : List ℕ → Tables → ℕ → Held
-openingAt f t k = heldIf (ltb k (t .types)) (record { rights = openingRights f t k; count = openingCount f t k }) (record { rights = 0; count = 0 })
+openingAt f t k = heldIf (ltb k (t .types)) (record { rights = openingRights f t k; count = openingCount f t k }) noneHeld
 
 unfoldable pub openingIn : List ℕ → Tables → Stock
 openingIn f t = stockOf (openingAt f t)

@@ -1,23 +1,20 @@
 -- What each row that is not refused ensures, table by table.
 use mathlib.Core.Path.{_≡_}
-use mathlib.Core.Bool.{true, false, not, _&&_}
+use mathlib.Core.Bool.{false, not, _&&_}
 use mathlib.Core.Logic.{_⊎_}
 use mathlib.Core.List.{List}
 use Prim.Native.Nat.{ℕ, _+_, _-_, _<_, _≤_}
 use lib.ListN.{length}
 use lib.Dec.{eqb}
 use borrow.Author.Tests.{leb-false, ltb-false, eqb-false, eqb-true, not-false, eq-eqb, ne-eqb}
+use Rattle.words.proofs.Lowest.{NoneBelow}
+use Rattle.words.proofs.Tests.{neither, not-both, or-l, or-r, not-zero}
 use Rattle.tables.specs.declared.Tables.{Tables}
 use Rattle.tables.specs.Trailer.{trailer}
 use Rattle.tables.specs.Kinds.{grantKind, drawKind, callKind, returnKind, throwKind}
 use Rattle.tables.specs.Fields.{entryOf, nodeMethod, nodeKind, nodeNumber, nodeCount, flowFrom, flowTo, callNode, callMethod, catchFrom, catchException, catchTo, openingCount}
-use Rattle.refuse.specs.Bad.{above, notAbove, flowRow, callRow, catchRow, fewest, most, countBad, lengthBad, entryBad, outOfRange, nodeBad, flowBad, callBad, throwsOther, catchBad, openingBad}
-use Rattle.refuse.proofs.Order.{pair-rises, triple-rises}
-use Rattle.refuse.proofs.Tests.{neither, not-both, first, second, not-zero}
-
--- each row is above the row before
-abbrev pub Rises : (ℕ → List ℕ) → ℕ → Type 0
-Rises row k = (k ≡ 0 → ⊥) → above (row k) (row (k - 1)) ≡ true
+use Rattle.refuse.specs.Bad.{notAbove, flowRow, callRow, catchRow, fewest, most, countBad, lengthBad, entryBad, outOfRange, nodeBad, flowBad, callBad, throwsOther, catchBad, openingBad}
+use Rattle.refuse.proofs.Order.{pair-rises, triple-rises, Rises, none-twice}
 
 rises : (row : ℕ → List ℕ) (k : ℕ) → notAbove row k ≡ false → Rises row k
 unfolding notAbove
@@ -86,8 +83,8 @@ module _ (f : List ℕ) (t : Tables) where
       record {
         method = leb-false _ _ (w2 .0);
         kind = ltb-false _ _ (w2 .1);
-        grant-type = λ e. leb-false _ _ (not-both _ _ (w3 .1) (first _ _ (eq-eqb _ _ e)));
-        draw-type = λ e. leb-false _ _ (not-both _ _ (w3 .1) (second (eqb (nodeKind f t n) grantKind) _ (eq-eqb _ _ e)));
+        grant-type = λ e. leb-false _ _ (not-both _ _ (w3 .1) (or-l _ _ (eq-eqb _ _ e)));
+        draw-type = λ e. leb-false _ _ (not-both _ _ (w3 .1) (or-r (eqb (nodeKind f t n) grantKind) _ (eq-eqb _ _ e)));
         exception = λ e. ltb-false _ _ (not-both _ _ (w4 .1) (eq-eqb _ _ e));
         repeats = λ e. not-zero _ (not-both _ _ (w5 .1) (eq-eqb _ _ e));
       }
@@ -161,3 +158,13 @@ module _ (f : List ℕ) (t : Tables) where
   pub catch-rises : (k : ℕ) → catchBad f t k ≡ false → (k ≡ 0 → ⊥) → (catchFrom f t (k - 1) < catchFrom f t k) ⊎ ((catchFrom f t k ≡ catchFrom f t (k - 1)) × (catchException f t (k - 1) ≤ catchException f t k))
   unfolding catchRow
   catch-rises k h z = triple-rises _ _ (catchTo f t k) _ _ (catchTo f t (k - 1)) (catch-fit k h .higher z)
+
+  -- no row comes twice
+  pub flow-once : (n : ℕ) → NoneBelow (flowBad f t) n → (i k : ℕ) → i < k → k < n → flowRow f t i ≡ flowRow f t k → ⊥
+  flow-once n h = none-twice (flowRow f t) n (λ k l. flow-fit k (h k l) .higher)
+
+  pub call-once : (n : ℕ) → NoneBelow (callBad f t) n → (i k : ℕ) → i < k → k < n → callRow f t i ≡ callRow f t k → ⊥
+  call-once n h = none-twice (callRow f t) n (λ k l. call-fit k (h k l) .higher)
+
+  pub catch-once : (n : ℕ) → NoneBelow (catchBad f t) n → (i k : ℕ) → i < k → k < n → catchRow f t i ≡ catchRow f t k → ⊥
+  catch-once n h = none-twice (catchRow f t) n (λ k l. catch-fit k (h k l) .higher)

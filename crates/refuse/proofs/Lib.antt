@@ -1,3 +1,2 @@
-pub mod Tests
 pub mod Order
 pub mod Fit

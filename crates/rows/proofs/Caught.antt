@@ -1,6 +1,6 @@
 -- The test for a catch row: what it says of the graph, and that the search decides it.
 use mathlib.Core.Path.{_≡_, refl, sym, _∙_}
-use mathlib.Core.Bool.{Bool, true, false, not, _&&_, true≢false, false≢true}
+use mathlib.Core.Bool.{Bool, true, false, not, true≢false, false≢true}
 use mathlib.Core.List.{List}
 use Prim.Native.Nat.{ℕ, _+_, _*_, _<_, _≤_}
 use native.Mathlib.Omega.{arith}
@@ -8,6 +8,7 @@ use lib.Dec.{eqb}
 use borrow.Author.Tests.{eqb-true, eqb-false, eq-eqb, ne-eqb}
 use Rattle.words.specs.Lowest.{lowest}
 use Rattle.words.proofs.Lowest.{NoneBelow, lowest-none, is-lowest}
+use Rattle.words.proofs.Tests.{and-l, and-r}
 use Rattle.answer.specs.declared.Answer.the-variants.{Pass}
 use Rattle.model.specs.Machine.{Uncaught}
 use Rattle.tables.specs.declared.Tables.{Tables}
@@ -21,17 +22,13 @@ use Rattle.rows.specs.Rows.{keyOf, firstRow, catchAt, uncaughtOf}
 use Rattle.rows.proofs.Climb.{climbs}
 use Rattle.rows.proofs.Stretch.{from-first, before-first, in-stretch}
 
-both-true : (a b : Bool) → (a && b) ≡ true → (a ≡ true) × (b ≡ true)
-both-true true b h = (refl, h)
-both-true false b h = absurd (false≢true h)
-
 module _ (f : List ℕ) (t : Tables) (n e : ℕ) where
   -- the row says n and e
   pub catch-says : (k : ℕ) → catchAt f t n e k ≡ true → (catchFrom f t k ≡ n) × (catchException f t k ≡ e)
   unfolding catchAt
   catch-says k h =
-      let w = both-true (eqb (catchFrom f t k) n) (eqb (catchException f t k) e) h in
-      (eqb-true _ _ (w .0), eqb-true _ _ (w .1))
+      let a = eqb (catchFrom f t k) n in
+      (eqb-true _ _ (and-l a _ h), eqb-true _ _ (and-r a _ h))
 
   pub says-catch : (k : ℕ) → catchFrom f t k ≡ n → catchException f t k ≡ e → catchAt f t n e k ≡ true
   unfolding catchAt

@@ -7,22 +7,23 @@ use mathlib.Core.Logic.{_⊎_, ⊎-elim}
 use lib.ListN.{length, replicate, length-replicate, getD-replicate}
 use lib.Dec.{leb, ltb, eqb}
 use lib.Bits.{bitAnd, and-le-r}
-use borrow.Author.Tests.{ltb-true, ltb-false, le-ltb, leb-true, leb-false, eqb-true, ne-eqb}
+use borrow.Author.Tests.{ltb-true, ltb-false, le-ltb, leb-true, eqb-true, ne-eqb}
 use native.Mathlib.Omega.{arith}
 use Rattle.words.specs.Bytes.{byteAt, wordAt}
 use Rattle.words.proofs.Read.{byte-past, word-lt}
 use Rattle.layout.specs.Layout.{stockSize, effectSize}
 use Rattle.single.specs.declared.Held.{Held}
 use Rattle.single.specs.declared.One.{One}
-use Rattle.single.specs.Number.{pick, normDrop, within}
+use Rattle.single.specs.Number.{normDrop, within}
 use Rattle.single.specs.Single.{idle, normalOne}
 use Rattle.effect.specs.declared.Stock.{Stock}
 use Rattle.effect.specs.declared.Effect.{Effect}
-use Rattle.effect.specs.Six.{heldAt, oneAt}
+use Rattle.effect.specs.Six.{heldAt, oneAt, heldIf, noneHeld}
 use Rattle.effect.specs.Whole.{oneIf}
-use Rattle.effect.proofs.Bools.{and-l, and-r}
+use Rattle.words.proofs.Tests.{and-l, and-r}
+use Rattle.effect.proofs.Order.{norm-le}
 use Rattle.effect.proofs.Six.{stock-at, effect-at, SixHeld, SixOnes}
-use Rattle.sheet.specs.Read.{sheetWord, markAt, heldWords, oneWords, heldIf, stockAt, effectAt}
+use Rattle.sheet.specs.Read.{sheetWord, markAt, heldWords, oneWords, stockAt, effectAt}
 use Rattle.sheet.specs.Write.{splice, bytesOf, heldField, oneField, stockWord, effectWord, stockBytes, effectBytes, blanked}
 use Rattle.sheet.proofs.Splice.{word-before, word-after, word-written}
 use Rattle.sheet.proofs.Same.{SameWords, stock-ext, effect-ext}
@@ -41,7 +42,7 @@ pub record HeldFits (h : Held) : Type 0 where
 pub record StockFits (t : ℕ) (x : Stock) : Type 0 where
   pub six : SixHeld x
   pub fit : (k : ℕ) → k < 6 → HeldFits (heldAt x k)
-  pub rest : (k : ℕ) → t ≤ k → k < 6 → heldAt x k ≡ record { rights = 0; count = 0 }
+  pub rest : (k : ℕ) → t ≤ k → k < 6 → heldAt x k ≡ noneHeld
 
 pub record OneFits (x : One) : Type 0 where
   pub keepin-fits : x .keepin < 65536
@@ -55,16 +56,6 @@ pub record EffectFits (t : ℕ) (e : Effect) : Type 0 where
   pub rest : (k : ℕ) → t ≤ k → k < 6 → oneAt e k ≡ idle
 
 -- what a normal effect does to a type fits, where its rights do
-norm-le : (c d : ℕ) → normDrop c d ≤ 256
-unfolding normDrop
-norm-le c d = go (eqb c 0) (leb 256 d) refl (eqb d 254)
-  where
-    go : (a b : Bool) → leb 256 d ≡ b → (e : Bool) → pick a 256 (pick b 256 (pick e 255 d)) ≤ 256
-    go true b q e = omega arith
-    go false true q e = omega arith
-    go false false q true = omega arith
-    go false false q false = omega (arith, leb-false 256 d q)
-
 pub normal-fits : (x : One) → normalOne x ≡ true → x .keepmax < 65536 → OneFits x
 unfolding normalOne within
 normal-fits x h m =
@@ -81,15 +72,15 @@ normal-fits x h m =
 
 -- what is read of each type, and that it fits
 module _ (s : List ℕ) (t w : ℕ) where
-  pub held-read : (k : ℕ) → k < 6 → heldAt (stockAt s t w) k ≡ heldIf (ltb k t) (heldWords s (w + 1 + 2 * k))
+  pub held-read : (k : ℕ) → k < 6 → heldAt (stockAt s t w) k ≡ heldIf (ltb k t) (heldWords s (w + 1 + 2 * k)) noneHeld
   unfolding stockAt
-  held-read = stock-at (λ k. heldIf (ltb k t) (heldWords s (w + 1 + 2 * k)))
+  held-read = stock-at (λ k. heldIf (ltb k t) (heldWords s (w + 1 + 2 * k)) noneHeld)
 
   pub one-read : (k : ℕ) → k < 6 → oneAt (effectAt s t w) k ≡ oneIf (ltb k t) (oneWords s (w + 1 + 4 * k))
   unfolding effectAt
   one-read = effect-at (λ k. oneIf (ltb k t) (oneWords s (w + 1 + 4 * k)))
 
-  held-fits : (v : ℕ) (b : Bool) → HeldFits (heldIf b (heldWords s v))
+  held-fits : (v : ℕ) (b : Bool) → HeldFits (heldIf b (heldWords s v) noneHeld)
   held-fits v true = record { rights-fit = word-lt s (2 * v); count-fits = word-lt s (2 * (v + 1)) }
   held-fits v false = record { rights-fit = omega arith; count-fits = omega arith }
 
@@ -110,7 +101,7 @@ module _ (s : List ℕ) (t w : ℕ) where
       record {
         six = refl;
         fit = λ k l. rw (held-read k l) (held-fits (w + 1 + 2 * k) (ltb k t));
-        rest = λ k u l. held-read k l ∙ ap (λ (b : Bool). heldIf b (heldWords s (w + 1 + 2 * k))) (le-ltb k t u);
+        rest = λ k u l. held-read k l ∙ ap (λ (b : Bool). heldIf b (heldWords s (w + 1 + 2 * k)) noneHeld) (le-ltb k t u);
       }
 
   pub effect-read : EffectFits t (effectAt s t w)
@@ -151,7 +142,7 @@ module _ (s : List ℕ) (t w : ℕ) (x : Stock) (fits : 2 * (w + stockSize t) �
   unfolding stockAt
   stock-back g = stock-ext (λ k l. at k l (ltb k t) refl) ∙ g .six
     where
-      at : (k : ℕ) → k < 6 → (b : Bool) → ltb k t ≡ b → heldIf b (heldWords (splice s (2 * w) (stockBytes x t)) (w + 1 + 2 * k)) ≡ heldAt x k
+      at : (k : ℕ) → k < 6 → (b : Bool) → ltb k t ≡ b → heldIf b (heldWords (splice s (2 * w) (stockBytes x t)) (w + 1 + 2 * k)) noneHeld ≡ heldAt x k
       at k l false q = sym (g .rest k (ltb-false k t q) l)
       at k l true q =
           let u : k < t = ltb-true k t q in

@@ -10,10 +10,10 @@ use native.Mathlib.Omega.{arith}
 use Rattle.layout.specs.Layout.{stockSize, effectSize}
 use Rattle.single.specs.declared.Held.{Held}
 use Rattle.single.specs.declared.One.{One}
-use Rattle.effect.specs.Six.{stockOf, effectOf}
+use Rattle.effect.specs.Six.{stockOf, effectOf, heldIf, noneHeld}
 use Rattle.effect.specs.Whole.{oneIf}
 use Rattle.effect.proofs.Six.{among-ext}
-use Rattle.sheet.specs.Read.{sheetWord, markAt, heldWords, oneWords, heldIf, stockAt, effectAt}
+use Rattle.sheet.specs.Read.{sheetWord, markAt, heldWords, oneWords, stockAt, effectAt}
 
 -- the n words from w on are the same in two sheets
 abbrev pub SameWords : List ℕ → List ℕ → ℕ → ℕ → Type 0
@@ -34,7 +34,7 @@ module _ (s r : List ℕ) (w : ℕ) where
     unfolding stockAt
     stock-same h = stock-ext (λ k l. at k (ltb k t) refl)
       where
-        at : (k : ℕ) (b : Bool) → ltb k t ≡ b → heldIf b (heldWords s (w + 1 + 2 * k)) ≡ heldIf b (heldWords r (w + 1 + 2 * k))
+        at : (k : ℕ) (b : Bool) → ltb k t ≡ b → heldIf b (heldWords s (w + 1 + 2 * k)) noneHeld ≡ heldIf b (heldWords r (w + 1 + 2 * k)) noneHeld
         at k false q = refl
         at k true q =
             let l : k < t = ltb-true k t q in

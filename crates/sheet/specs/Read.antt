@@ -1,6 +1,5 @@
 -- How the blocks of a sheet are read: a stock and an effect of six types, of which the file has t.
 use Prim.Native.Nat.{ℕ, _+_, _*_}
-use mathlib.Core.Bool.{Bool, true, false}
 use mathlib.Core.List.{List}
 use lib.Dec.{ltb}
 use Rattle.words.specs.Bytes.{wordAt}
@@ -8,7 +7,7 @@ use Rattle.single.specs.declared.Held.{Held}
 use Rattle.single.specs.declared.One.{One}
 use Rattle.effect.specs.declared.Stock.{Stock}
 use Rattle.effect.specs.declared.Effect.{Effect}
-use Rattle.effect.specs.Six.{stockOf, effectOf}
+use Rattle.effect.specs.Six.{stockOf, effectOf, heldIf, noneHeld}
 use Rattle.effect.specs.Whole.{oneIf}
 
 -- "Words of two bytes": word w of the sheet
@@ -33,14 +32,9 @@ oneWords s w =
       drop = sheetWord s (w + 3);
     }
 
--- a type that the file does not have holds nothing
-abbrev pub heldIf : Bool → Held → Held
-heldIf true h = h
-heldIf false h = record { rights = 0; count = 0 }
-
--- the stock after the mark at w
+-- the stock after the mark at w; a type that the file does not have holds nothing
 unfoldable pub stockAt : List ℕ → ℕ → ℕ → Stock
-stockAt s t w = stockOf (λ k. heldIf (ltb k t) (heldWords s (w + 1 + 2 * k)))
+stockAt s t w = stockOf (λ k. heldIf (ltb k t) (heldWords s (w + 1 + 2 * k)) noneHeld)
 
 -- the effect after the mark at w; to a type that the file does not have nothing is done
 unfoldable pub effectAt : List ℕ → ℕ → ℕ → Effect

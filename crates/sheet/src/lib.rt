@@ -8,8 +8,9 @@ ghost use Prim.Native.Nat.{_+_, _*_, _<_, _≤_};
 ghost use lib.ListN.{length};
 ghost use lib.Dec.{ltb};
 ghost use Rattle.layout.specs.Layout.{stockSize, effectSize};
+ghost use Rattle.effect.specs.Six.{heldIf, noneHeld};
 ghost use Rattle.effect.specs.Whole.{oneIf};
-ghost use Rattle.sheet.specs.Read.{sheetWord, markAt, heldWords, oneWords, heldIf, stockAt, effectAt};
+ghost use Rattle.sheet.specs.Read.{sheetWord, markAt, heldWords, oneWords, stockAt, effectAt};
 ghost use Rattle.sheet.specs.Write.{splice, wordBytes, bytesOf, stockWord, effectWord, stockBytes, effectBytes, blanked};
 
 // Word w of the sheet.
@@ -31,7 +32,7 @@ pub fn mark(s: &[u8], w: usize) -> u16
 // What the stock at w holds of type k.
 fn held_at(s: &[u8], t: usize, w: usize, k: usize) -> Held
     requires { ⌜ (w < 4294967296) × (k < 6) ⌝ }
-    ensures { λ r. ⌜ r ≡ heldIf (ltb k t) (heldWords (now (s .entry)) (w + 1 + 2 * k)) ⌝ }
+    ensures { λ r. ⌜ r ≡ heldIf (ltb k t) (heldWords (now (s .entry)) (w + 1 + 2 * k)) noneHeld ⌝ }
 {
     if k < t {
         let a = w + 1 + 2 * k;

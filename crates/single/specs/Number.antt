@@ -10,7 +10,7 @@ abbrev pub pick : Bool → ℕ → ℕ → ℕ
 pick true a b = a
 pick false a b = b
 
--- "A count of 255 means endless"
+-- "A count of 255 means endless"; so does one above 255
 abbrev pub counted : ℕ → ℕ
 counted n = min n 255
 

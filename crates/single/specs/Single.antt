@@ -60,7 +60,8 @@ bothOne x y =
       drop = largerDrop (x .drop) (y .drop);
     })
 
--- "One effect is at most another if its result is at most the other's for every stock."
+-- the test that one effect is at most another, field by field; of a normal effect it holds exactly if the result is at most
+-- the other's for every stock (at-most-sound and at-most-complete, in proofs/Laws.antt of `effect`)
 unfoldable pub atMostOne : One → One → Bool
 atMostOne x y =
     within (x .keepin) (y .keepin)

@@ -1,9 +1,9 @@
 -- `lowest` is what its comment says, and a loop that counts upwards and stops at the first hit computes it.
-use Prim.Native.Nat.{ℕ, zero, suc, _+_, _<_, _≤_}
+use Prim.Native.Nat.{ℕ, zero, suc, _<_, _≤_}
 use mathlib.Core.Path.{_≡_, refl, sym, _∙_}
 use mathlib.Core.Bool.{Bool, true, false, cond}
 use lib.Dec.{ltb}
-use borrow.Author.Tests.{lt-ltb, le-ltb, ltb-true, ltb-false}
+use borrow.Author.Tests.{le-ltb, ltb-true, ltb-false}
 use native.Mathlib.Nat.{le-refl, lt-irrefl, not-suc-le-zero}
 use borrow.Author.Count.{below-more}
 use native.Mathlib.Omega.{arith}
@@ -35,6 +35,15 @@ lowest-is p (suc n) i h l e = go (ltb i n) refl (lowest-is p n i h)
         let q : lowest p n ≡ n = lowest-none p n (λ k l. h k (omega arith)) in
         let e′ : p n ≡ true = rw s e in
         simp (q, le-ltb n n (le-refl n), e′) s
+
+-- tests that agree below n have the same lowest
+pub lowest-same : (p q : ℕ → Bool) (n : ℕ) → ((k : ℕ) → k < n → p k ≡ q k) → lowest p n ≡ lowest q n
+unfolding lowest
+lowest-same p q zero h = refl
+lowest-same p q (suc n) h =
+    let a : lowest p n ≡ lowest q n = lowest-same p q n (λ k l. h k (omega arith)) in
+    let b : p n ≡ q n = h n (le-refl (suc n)) in
+    λ i. cond (ltb (a i) n) (a i) (cond (b i) n (suc n))
 
 -- what a loop over the rows returns, where it counts to n and n is the number m of rows
 pub scan-found : (p : ℕ → Bool) {n m i : ℕ} → n ≡ m → NoneBelow p i → i < n → p i ≡ true → i ≡ lowest p m
@@ -69,3 +78,8 @@ is-lowest p (suc n) = go (is-lowest p n) (ltb (lowest p n) n) refl (p n) refl
       where
         below : NoneBelow p n → (k : ℕ) → k < suc n → p k ≡ false
         below h k u = below-more (λ (m : ℕ). p m ≡ false) n h e k (omega arith)
+
+pub none-found : (p : ℕ → Bool) (n : ℕ) → ltb (lowest p n) n ≡ false → NoneBelow p n
+none-found p n h =
+    let l : n ≤ lowest p n = ltb-false (lowest p n) n h in
+    λ k u. is-lowest p n .before k (omega arith)
