@@ -6,7 +6,6 @@ use lib.Dec.{leb, eqb}
 use Rattle.effect.specs.declared.Effect.{Effect}
 use Rattle.effect.specs.Whole.{nothingDone, thenOf}
 use Rattle.model.specs.Stocks.{stepOf}
-use Rattle.rounds.specs.declared.Rounds.{Rounds}
 use Rattle.rounds.specs.Rounds.{roundsOf}
 use Rattle.tables.specs.declared.Tables.{Tables}
 use Rattle.tables.specs.Kinds.{drawKind, returnKind, throwKind}

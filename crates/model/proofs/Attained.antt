@@ -1,6 +1,6 @@
 -- What a sheet says is brought by runs, at each coordinate by a run of its own. A blank sheet is attained, and every step that marks or
 -- lowers a block to what a rule names keeps a sheet so.
-use mathlib.Core.Path.{_≡_, refl, sym, subst, _∙_}
+use mathlib.Core.Path.{_≡_, refl, sym, subst}
 use mathlib.Core.Logic.{_⊎_, inl, inr}
 use mathlib.Core.List.{List, [], _∷_}
 use Prim.Native.Nat.{ℕ, zero, suc, _+_, _-_, _≤_, _<_, min}

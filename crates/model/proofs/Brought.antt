@@ -1,5 +1,5 @@
 -- What each demand of the rules asks a block to be at most, runs bring to that block: so lowering blocks to it keeps a sheet attained.
-use mathlib.Core.Path.{_≡_, refl}
+use mathlib.Core.Path.{_≡_}
 use mathlib.Core.Bool.{Bool, true}
 use Prim.Native.Nat.{ℕ, suc, _<_}
 use Rattle.model.specs.Machine.{Graph, Uncaught}

@@ -1,8 +1,8 @@
 -- The rules as a program tests them: what rules 7 to 10 ask for every number of rounds is asked once, of the lowest.
 use mathlib.Core.Path.{_≡_, refl, subst}
-use mathlib.Core.Logic.{_⊎_, inl, inr}
+use mathlib.Core.Logic.{inl, inr}
 use mathlib.Core.Bool.{Bool, true}
-use Prim.Native.Nat.{ℕ, suc, _≤_, _<_}
+use Prim.Native.Nat.{ℕ, suc, _<_}
 use native.Mathlib.Nat.{le-trans}
 use native.Mathlib.Omega.{arith}
 use Rattle.model.specs.Machine.{Graph, Uncaught}
@@ -10,7 +10,7 @@ use Rattle.model.specs.Rules.{Effects, Below, AtMost, Sheet, Reached, Ro
 use Rattle.model.specs.Rounds.{whole-rounds, earlier-rounds}
 use Rattle.model.proofs.Formed.{Formed}
 use Rattle.model.proofs.Setting.{Setting, then-low}
-use Rattle.model.proofs.Rounds.{Before, taken, whole-under, whole-hit, earlier-under, earlier-hit}
+use Rattle.model.proofs.Rounds.{Before, whole-under, whole-hit, earlier-under, earlier-hit}
 
 -- `returns m` tells whether exit 0 of the method m is marked.
 module _ (S : Setting) (T : Sheet (S .W)) (returns : ℕ → Bool) where

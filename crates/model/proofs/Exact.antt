@@ -2,11 +2,11 @@
 -- it is the greatest of all sheets that obey the rules, and the only one of its kind.
 use mathlib.Core.Path.{_≡_, subst}
 use mathlib.Core.Logic.{_↔_}
-use mathlib.Core.List.{List, [], _∷_}
+use mathlib.Core.List.{List, []}
 use Prim.Native.Nat.{ℕ, zero, suc, _≤_, _<_}
 use native.Mathlib.Nat.{le-trans, le-antisymm}
 use native.Mathlib.Omega.{arith}
-use Rattle.model.specs.Machine.{Graph, Doing, Frame, frame, At, Arrives, Overdraws}
+use Rattle.model.specs.Machine.{Graph, Doing, Frame, At, Arrives, Overdraws}
 use Rattle.model.specs.Rules.{Effects, Below, AtMost, Sheet, Reached, stock-at, rule1, rule5, Obeys, Under, Greatest}
 use Rattle.model.proofs.Formed.{Formed}
 use Rattle.model.proofs.Setting.{Setting, Laws, Told}

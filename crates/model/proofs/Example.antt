@@ -16,7 +16,7 @@ use Rattle.effect.specs.Six.{stockOf}
 use Rattle.effect.specs.Whole.{nothingDone, drawOf, applyOf, thenOf, atMostOf, stockAtMostOf, coversOf}
 use Rattle.effect.specs.Coordinate.{Coordinate, count, at}
 use Rattle.effect.proofs.Coordinate.{stock-at-sound, at-most-at-sound}
-use Rattle.model.specs.Machine.{Graph, Doing, Frame, frame, At, Steps, stay, more, along, enter, again, back, Arrives, Overdraws}
+use Rattle.model.specs.Machine.{Graph, Frame, frame, At, Steps, stay, more, along, enter, again, back, Arrives, Overdraws}
 use Rattle.model.specs.Rules.{Below, AtMost, times, Sheet, AskMethod, AskNode, AskExit, rule1, rule2, rule3, rule4, rule5, rule6, rule7, rule8, rule9, rule10, Obeys}
 use Rattle.model.specs.Stocks.{permits, Does, plain, draw, done, doing, stepOf}
 use Rattle.model.proofs.Formed.{Formed}

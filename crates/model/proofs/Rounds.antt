@@ -6,7 +6,7 @@ use Prim.Native.Nat.{ℕ, zero, suc, _-_, _≤_, _<_, min}
 use native.Mathlib.Nat.{le-of-eq}
 use native.Mathlib.Decide.{decLe}
 use native.Mathlib.Omega.{arith}
-use Rattle.model.specs.Rules.{Effects, Below, AtMost, times}
+use Rattle.model.specs.Rules.{Effects, AtMost, times}
 use Rattle.model.specs.Rounds.{lowest-rounds, whole-rounds, earlier-rounds}
 use Rattle.model.proofs.Setting.{Laws, apply-same}
 

@@ -3,11 +3,11 @@
 use mathlib.Core.Path.{_≡_, refl, sym, subst, _∙_}
 use mathlib.Core.Logic.{_⊎_, inl, inr}
 use mathlib.Core.List.{List, [], _∷_}
-use Prim.Native.Nat.{ℕ, zero, suc, _+_, _-_, _≤_, _<_}
-use native.Mathlib.Nat.{le-refl, le-trans, le-of-eq, le-antisymm}
+use Prim.Native.Nat.{ℕ, suc, _+_, _-_, _≤_, _<_}
+use native.Mathlib.Nat.{le-refl, le-trans}
 use native.Mathlib.Omega.{arith}
 use Rattle.model.specs.Machine.{Graph, Doing, Frame, frame, Config, At, Out, Step, along, enter, again, back, caught, leaves, handled, passes, Steps, stay, more, Run}
-use Rattle.model.specs.Rules.{Effects, Below, AtMost, times, Sheet, Reached, stock-at, after, Rounds, AskMethod, AskNode, AskExit, rule1, rule2, rule3, rule4, rule5, rule6, rule7, rule8, rule9, rule10, Obeys}
+use Rattle.model.specs.Rules.{Effects, Below, AtMost, times, Sheet, Reached, stock-at, after, Rounds, rule1, rule2, rule3, rule4, rule5, rule6, rule7, rule8, rule9, rule10, Obeys}
 use Rattle.model.proofs.Formed.{Formed}
 use Rattle.model.proofs.Setting.{Setting, Laws, Told, apply-same}
 

@@ -1,6 +1,6 @@
 -- A file that passes gives the theorems of the model what they ask for.
 use Prim.Native.Nat.{ℕ, _<_}
-use mathlib.Core.Path.{_≡_, refl, sym, subst}
+use mathlib.Core.Path.{_≡_, sym, subst}
 use mathlib.Core.List.{List}
 use native.Mathlib.Decide.{ℕ-discrete, decLt}
 use native.Mathlib.Omega.{arith}
@@ -8,13 +8,13 @@ use Rattle.words.proofs.Read.{word-lt}
 use Rattle.answer.specs.declared.Answer.the-variants.{Pass}
 use Rattle.tables.specs.Trailer.{tablesOf}
 use Rattle.tables.specs.Kinds.{grantKind, drawKind}
-use Rattle.tables.specs.Fields.{nodeKind, nodeNumber, nodeRights}
+use Rattle.tables.specs.Fields.{nodeKind, nodeRights}
 use Rattle.refuse.proofs.Fit.{node-fit}
 use Rattle.graph.specs.Judge.{judgeOf}
 use Rattle.graph.specs.Graph.{graphOf}
 use Rattle.graph.proofs.Judged.{judged}
 use Rattle.graph.proofs.Whole.{formed, limits}
-use Rattle.model.specs.Stocks.{permits, Does, plain, grant, draw, doing, stepOf}
+use Rattle.model.specs.Stocks.{permits, Does, plain, doing, stepOf}
 use Rattle.model.proofs.Setting.{Setting}
 use Rattle.model.proofs.Stocks.{laws, told, Fits}
 use Rattle.nodes.specs.Nodes.{doesIn, openingIn}

@@ -5,7 +5,6 @@ use single::Held;
 use tables::Tables;
 ghost use mathlib.Core.Path.{_≡_};
 ghost use Prim.Native.Nat.{_<_};
-ghost use Rattle.effect.specs.Six.{stockOf, among};
 ghost use Rattle.model.specs.Stocks.{stepOf};
 ghost use Rattle.nodes.specs.Nodes.{doesIn, openingAt, openingIn};
 

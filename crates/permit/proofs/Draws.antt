@@ -1,7 +1,7 @@
 -- The test of a draw, on the bytes, says that the node is reached and not covered.
 use Prim.Native.Nat.{ℕ, _<_}
-use mathlib.Core.Path.{_≡_, refl, sym, subst, _∙_}
-use mathlib.Core.Bool.{Bool, true, false, _&&_, not}
+use mathlib.Core.Path.{_≡_, refl, sym, subst}
+use mathlib.Core.Bool.{Bool, true, false, _&&_}
 use mathlib.Core.List.{List}
 use native.Mathlib.Decide.{ℕ-discrete}
 use lib.Dec.{eqb}
@@ -19,7 +19,6 @@ use Rattle.refuse.proofs.Fit.{node-fit}
 use Rattle.graph.specs.Judge.{judgeOf}
 use Rattle.graph.specs.Graph.{graphOf}
 use Rattle.graph.proofs.Judged.{judged}
-use Rattle.nodes.specs.Nodes.{doesIn}
 use Rattle.nodes.proofs.Cases.{does-grant, does-draw, does-plain}
 use Rattle.layout.specs.Layout.{methodAt, nodeAt}
 use Rattle.demand.specs.Demand.{marked}

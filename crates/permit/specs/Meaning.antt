@@ -7,8 +7,7 @@ use mathlib.Core.List.{List}
 use lib.ListN.{length}
 use Rattle.answer.specs.declared.Answer.{Answer}
 use Rattle.answer.specs.declared.Answer.the-variants.{Pass, BadSheet, BadBlock, Broken, Overdrawn}
-use Rattle.model.specs.Machine.{Graph, Doing}
-use Rattle.model.specs.Rules.{Sheet, Rule, Obeys, Reached, stock-at}
+use Rattle.model.specs.Rules.{Sheet, Rule, Reached, stock-at}
 use Rattle.model.specs.Stocks.{permits, doing, stepOf}
 use Rattle.tables.specs.Trailer.{tablesOf}
 use Rattle.graph.specs.Judge.{judgeOf}

@@ -1,24 +1,22 @@
 -- "Mark 1 and at most", tested on the bytes of a sheet with no ill-formed block, is what the rules mean by it.
-use Prim.Native.Nat.{ℕ, _+_, _*_, _%_, _≤_, _<_}
-use mathlib.Core.Path.{_≡_, refl, sym, ap, _∙_}
+use Prim.Native.Nat.{ℕ, _+_, _*_, _%_, _<_}
+use mathlib.Core.Path.{_≡_, refl}
 use mathlib.Core.Logic.{_↔_}
 use mathlib.Core.Bool.{Bool, true, false, _&&_}
 use mathlib.Core.List.{List}
 use native.Mathlib.Omega.{arith}
-use lib.Dec.{ltb, eqb}
+use lib.Dec.{ltb}
 use borrow.Author.Tests.{eq-eqb, eqb-true, le-ltb, ne-eqb}
-use Rattle.words.specs.Lowest.{lowest}
 use Rattle.words.proofs.Lowest.{is-lowest}
 use Rattle.effect.specs.declared.Stock.{Stock}
 use Rattle.effect.specs.declared.Effect.{Effect}
-use Rattle.effect.specs.Six.{oneAt, heldAt}
-use Rattle.effect.specs.Whole.{normalOf, atMostOf, stockAtMostOf}
+use Rattle.effect.specs.Whole.{normalOf}
 use Rattle.effect.proofs.Bools.{and-l, and-r, and-i}
 use Rattle.effect.proofs.Coordinate.{stock-at-sound, stock-at-complete, at-most-at-sound, at-most-at-complete}
 use Rattle.model.specs.Rules.{Sheet, Below, AtMost}
 use Rattle.model.specs.Stocks.{permits}
 use Rattle.layout.specs.declared.Shape.{Shape}
-use Rattle.layout.specs.Layout.{methodAt, exitAt, nodeAt, blockCount, blockAt, isStock}
+use Rattle.layout.specs.Layout.{methodAt, exitAt, nodeAt, blockCount, isStock}
 use Rattle.layout.proofs.Blocks.{block-exit, block-node}
 use Rattle.sheet.specs.Read.{markAt, stockAt, effectAt}
 use Rattle.sheet.proofs.Back.{effect-read, stock-read}

@@ -1,13 +1,11 @@
 -- What the test of one row says, and that it holds where that is so. The file passes, and no block of the sheet is ill formed.
-use Prim.Native.Nat.{ℕ, suc, _+_, _*_, _-_, _≤_, _<_}
-use mathlib.Core.Path.{_≡_, refl, sym, ap, subst, _∙_}
+use Prim.Native.Nat.{ℕ, _+_, _*_, _-_, _≤_, _<_}
+use mathlib.Core.Path.{_≡_, refl, sym, _∙_}
 use mathlib.Core.Logic.{_↔_}
-use mathlib.Core.Bool.{Bool, true, false, cond, _&&_}
+use mathlib.Core.Bool.{Bool, true, false, cond}
 use mathlib.Core.List.{List}
 use native.Mathlib.Omega.{arith}
-use native.Mathlib.Numerals.{one-add}
-use lib.Dec.{leb, eqb}
-use borrow.Author.Tests.{le-leb, leb-true, eq-eqb, ne-eqb, eqb-true, eqb-false}
+use borrow.Author.Tests.{le-leb, leb-true, eq-eqb, ne-eqb, eqb-true}
 use Rattle.answer.specs.declared.Answer.the-variants.{Pass}
 use Rattle.effect.specs.declared.Effect.{Effect}
 use Rattle.effect.specs.Whole.{nothingDone, thenOf, applyOf}
@@ -16,23 +14,22 @@ use Rattle.model.specs.Stocks.{permits, stepOf}
 use Rattle.tables.specs.declared.Tables.{Tables}
 use Rattle.tables.specs.Trailer.{tablesOf}
 use Rattle.tables.specs.Kinds.{drawKind, returnKind, throwKind}
-use Rattle.tables.specs.Fields.{entryOf, nodeMethod, nodeKind, nodeNumber, flowFrom, flowTo, callNode, callMethod, catchFrom, catchException, catchTo}
-use Rattle.refuse.proofs.Fit.{entry-fit, node-fit, flow-fit, call-fit, catch-fit}
+use Rattle.tables.specs.Fields.{entryOf, nodeMethod, nodeKind, nodeNumber, flowFrom, flowTo, catchFrom, catchException, catchTo}
+use Rattle.refuse.proofs.Fit.{entry-fit, node-fit, flow-fit, catch-fit}
 use Rattle.graph.specs.Judge.{judgeOf}
 use Rattle.graph.proofs.Judged.{Judged, judged}
 use Rattle.rows.specs.declared.Sorted.the-variants as sorted
 use Rattle.rows.specs.Rows.{firstRow, keyOf, uncaughtOf}
 use Rattle.rows.proofs.Stretch.{in-stretch, of-stretch}
 use Rattle.rows.proofs.Caught.{catch-says, key-row}
-use Rattle.nodes.specs.Nodes.{doesIn, openingIn}
+use Rattle.nodes.specs.Nodes.{doesIn}
 use Rattle.layout.specs.Layout.{methodAt, exitAt, nodeAt, blockCount}
-use Rattle.sheet.specs.Read.{markAt, stockAt}
 use Rattle.formed.specs.Ill.{firstIll}
 use Rattle.demand.specs.declared.Called.{Called}
-use Rattle.demand.specs.Demand.{marked, asked, unasked, askedIf, demandIf, entryDemand, flowDemand, catchDemand, returnDemand, throwDemand, leaveDemand, nodeDemand}
+use Rattle.demand.specs.Demand.{entryDemand, flowDemand, catchDemand, returnDemand, throwDemand, leaveDemand, nodeDemand}
 use Rattle.rules.specs.declared.Leads.{Leads}
 use Rattle.rules.specs.declared.Leads.the-variants as leads
-use Rattle.rules.specs.Tests.{effectUnder, stockUnder, met, targetOf, targetUnder, allFor, startUnder, afterCall, intoCall, caughtUnder}
+use Rattle.rules.specs.Tests.{stockUnder, met, targetOf, targetUnder, allFor, afterCall, intoCall, caughtUnder}
 use Rattle.rules.specs.Sheet.{shapeOf, sheetIn}
 use Rattle.rules.proofs.Rows.{all-true, all-at}
 use Rattle.rules.proofs.Blocks.{mark-true, true-mark, node-under, exit-under, method-under}

@@ -1,11 +1,9 @@
-use Prim.Native.Nat.{_<_, _≤_}
-use mathlib.Core.Path.{_≡_, sym, ap, _∙_}
-use mathlib.Core.Bool.{true, false}
+use mathlib.Core.Path.{_≡_, sym, _∙_}
 use native.Mathlib.Omega.{arith}
 use denote.Ref.{now}
 use borrow.Author.Needs.{needs}
 use borrow.Author.Tests.{eq-eqb, ne-eqb}
-use Rattle.tables.specs.Fields.{nodeKind, nodeNumber}
+use Rattle.tables.specs.Fields.{nodeKind}
 use Rattle.tables.specs.Kinds.{returnKind, throwKind}
 use Rattle.refuse.proofs.Fit.{node-fit}
 use Rattle.graph.proofs.Judged.{judged}

@@ -1,9 +1,6 @@
-use Prim.Native.Nat.{_<_, _≤_}
-use mathlib.Core.Path.{_≡_, sym, ap, _∙_}
-use mathlib.Core.Bool.{true, false}
+use mathlib.Core.Path.{ap, _∙_}
 use native.Mathlib.Omega.{arith}
 use denote.Ref.{now}
-use borrow.Author.Needs.{needs}
 use Rattle.layout.specs.Layout.{exitAt}
 use Rattle.sheet.specs.Read.{effectAt}
 use Rattle.demand.specs.Demand.{returnDemand}

@@ -1,16 +1,11 @@
 use mathlib.Core.Path.{_≡_, sym, ap, _∙_}
-use mathlib.Core.Bool.{true, false, _&&_, not}
-use native.Mathlib.Omega.{arith}
 use denote.Ref.{now}
 use borrow.Author.Needs.{needs}
 use borrow.Author.Tests.{eq-eqb, ne-eqb}
 use Rattle.answer.specs.declared.Answer.the-variants.{Pass}
 use Rattle.answer.specs.Number.{numberOf}
 use Rattle.answer.proofs.Unpack.{zero-pass}
-use Rattle.tables.specs.Trailer.{tablesOf}
 use Rattle.graph.specs.Judge.{judgeOf, judgeIn}
-use Rattle.graph.proofs.Whole.{limits}
-use Rattle.layout.specs.Layout.{Within}
 use Rattle.rules.specs.Sheet.{shapeOf}
 use Rattle.permit.specs.Check.{judgedSheet, checkOf}
 use Rattle.permit.proofs.Meaning.{both-ensured, within}

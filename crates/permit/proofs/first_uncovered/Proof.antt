@@ -1,7 +1,6 @@
 -- The invariant: no node passed is uncovered.
 use Prim.Native.Nat.{_≤_, _-_}
-use mathlib.Core.Path.{_≡_, refl, sym, _∙_}
-use native.Mathlib.Omega.{arith}
+use mathlib.Core.Path.{refl, sym, _∙_}
 use denote.Ref.{now}
 use borrow.Author.Count.{below-more, below-none}
 use borrow.Author.Needs.{needs}

@@ -1,11 +1,8 @@
-use mathlib.Core.Path.{_≡_, sym, ap, _∙_}
+use mathlib.Core.Path.{_≡_, _∙_}
 use mathlib.Core.Bool.{true, false}
-use native.Mathlib.Omega.{arith}
-use denote.Ref.{now}
 use borrow.Author.Needs.{needs}
-use Prim.Native.Nat.{_-_, _+_}
-use Rattle.rows.specs.Rows.{firstRow}
-use Rattle.rules.specs.Tests.{allFor, afterCall}
+use Prim.Native.Nat.{_-_}
+use Rattle.rules.specs.Tests.{afterCall}
 use Rattle.rules.proofs.Rows.{stretch-same}
 use Rattle.rules.proofs.after_call.Statement.{statement}
 use Rattle.rules.proofs.after_call.Tie as tie

@@ -1,10 +1,8 @@
-use mathlib.Core.Path.{_≡_, sym, ap, _∙_}
-use mathlib.Core.Bool.{true, false}
-use native.Mathlib.Omega.{arith}
+use mathlib.Core.Path.{ap, _∙_}
 use denote.Ref.{now}
 use borrow.Author.Needs.{needs}
 use Rattle.rules.specs.Tests.{met}
-use Rattle.rules.specs.Broken.{brokenIf, countOf}
+use Rattle.rules.specs.Broken.{brokenIf}
 use Rattle.rules.proofs.broken_at.Statement.{statement}
 use Rattle.rules.proofs.broken_at.Tie as tie
 

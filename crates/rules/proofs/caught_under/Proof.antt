@@ -1,8 +1,5 @@
-use mathlib.Core.Path.{_≡_, sym, ap, _∙_}
-use mathlib.Core.Bool.{true, false}
+use mathlib.Core.Path.{_∙_}
 use native.Mathlib.Omega.{arith}
-use denote.Ref.{now}
-use borrow.Author.Needs.{needs}
 use Rattle.rules.specs.Tests.{caughtUnder}
 use Rattle.rules.proofs.Rows.{stretch-same}
 use Rattle.rules.proofs.caught_under.Statement.{statement}

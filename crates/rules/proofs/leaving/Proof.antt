@@ -2,7 +2,6 @@ use mathlib.Core.Path.{_≡_, sym, ap, _∙_}
 use mathlib.Core.Bool.{true, false}
 use native.Mathlib.Omega.{arith}
 use denote.Ref.{now}
-use borrow.Author.Needs.{needs}
 use Prim.Native.Nat.{_+_}
 use Rattle.layout.specs.Layout.{exitAt}
 use Rattle.tables.specs.Fields.{nodeMethod}

@@ -1,14 +1,9 @@
-use mathlib.Core.Path.{_≡_, sym, ap, _∙_}
+use mathlib.Core.Path.{_≡_, sym, _∙_}
 use mathlib.Core.Bool.{true, false}
-use native.Mathlib.Omega.{arith}
 use denote.Ref.{now}
-use borrow.Author.Needs.{needs}
-use mathlib.Core.Bool.{Bool, not}
 use borrow.Author.Tests.{not-true, not-false}
-use Rattle.demand.specs.declared.Called.{Called}
-use Rattle.demand.specs.Demand.{calledIn}
 use Rattle.rules.specs.Tests.{afterCall, intoCall}
-use Rattle.rules.specs.Broken.{thrownBroken, leastOf, calledBroken, callBroken}
+use Rattle.rules.specs.Broken.{calledBroken, callBroken}
 use Rattle.rules.proofs.of_call.Statement.{statement}
 use Rattle.rules.proofs.of_call.Tie as tie
 

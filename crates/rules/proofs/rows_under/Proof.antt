@@ -1,12 +1,11 @@
 -- The invariant: every row passed led to a node that is at most e.
-use Prim.Native.Nat.{_≤_, _<_, _-_}
-use mathlib.Core.Path.{_≡_, refl, sym, _∙_}
-use mathlib.Core.Bool.{true, false, not}
+use Prim.Native.Nat.{_-_}
+use mathlib.Core.Path.{sym, _∙_}
 use native.Mathlib.Omega.{arith}
 use denote.Ref.{now}
 use borrow.Author.Needs.{needs}
 use borrow.Author.Tests.{not-true, not-false}
-use Rattle.rules.specs.Tests.{targetUnder, allFor}
+use Rattle.rules.specs.Tests.{targetUnder}
 use Rattle.rules.proofs.Rows.{Passed, passed-start, passed-more, passed-fails, passed-all}
 use Rattle.rules.proofs.rows_under.Statement.{statement}
 use Rattle.rules.proofs.rows_under.Tie as tie

@@ -1,8 +1,6 @@
-use mathlib.Core.Path.{_≡_, sym, ap, _∙_}
-use mathlib.Core.Bool.{true, false}
+use mathlib.Core.Path.{ap, _∙_}
 use native.Mathlib.Omega.{arith}
 use denote.Ref.{now}
-use borrow.Author.Needs.{needs}
 use Rattle.layout.specs.Layout.{nodeAt}
 use Rattle.rules.specs.Tests.{effectUnder, targetUnder}
 use Rattle.rules.proofs.target_under.Statement.{statement}

@@ -1,4 +1,3 @@
-use Rattle.rules.specs.Broken.{brokenIf}
 use Rattle.rules.proofs.unless.Statement.{statement}
 use Rattle.rules.proofs.unless.Tie as tie
 
