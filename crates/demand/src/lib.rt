@@ -18,7 +18,8 @@ pub struct Demand {
     pub most: Effect,
 }
 
-// What a call row gives: the call, the method called, whether each is marked, and the rounds.
+// What a call row gives: the call, the method called, whether the call is marked, whether exit 0 of the method is, and the rounds, which
+// nothing asks for where the call is not marked.
 pub struct Called {
     pub node: u16,
     pub method: u16,

@@ -15,7 +15,7 @@ normalOf e = allSix (λ k. normalOne (oneAt e k))
 unfoldable pub nothingDone : Effect
 nothingDone = effectOf (λ k. idle)
 
--- the effect x of type t, and nothing done to any other
+-- x where the test holds, else nothing done
 abbrev pub oneIf : Bool → One → One
 oneIf true x = x
 oneIf false x = idle

@@ -5,8 +5,9 @@ use mathlib.Core.List.{List}
 use Prim.Native.Nat.{ℕ, _<_, _≤_}
 use native.Mathlib.Omega.{arith}
 use lib.ListN.{length}
-use lib.Dec.{lit<}
+use lib.Dec.{ltb, lit<}
 use borrow.Author.Tests.{ltb-false}
+use Rattle.words.specs.Lowest.{lowest}
 use Rattle.words.proofs.Lowest.{NoneBelow, none-found}
 use Rattle.answer.specs.declared.Answer.{Answer}
 use Rattle.answer.specs.declared.Answer.the-variants.{Pass, TooShort, BadCount, BadLength, BadEntry, BadNode, BadFlow, BadCall, BadCatch, BadOpening}
@@ -50,3 +51,30 @@ judged f t h =
     let w8 = rows-pass _ _ BadCatch _ (w7 .1) (λ k. lit< tt) in
     let w9 = rows-pass _ _ BadOpening _ (w8 .1) (λ k. lit< tt) in
     record { long = ltb-false (length f) 14 (w1 .0); counts = w2 .0; whole = w3 .0; entries = w4 .0; nodes = w5 .0; flows = w6 .0; calls = w7 .0; catches = w8 .0; opening = w9 .0 }
+
+-- the judge answers 1 to 9, or 0
+few : (b : Bool) (a next : Answer) → numberOf a ≤ 9 → numberOf next ≤ 9 → numberOf (cond b a next) ≤ 9
+few true a next p q = p
+few false a next p q = q
+
+rows-few : (bad : ℕ → Bool) (n : ℕ) (answer : ℕ → Answer) (next : Answer) → ((k : ℕ) → numberOf (answer k) ≤ 9) → numberOf next ≤ 9 → numberOf (refused bad n answer next) ≤ 9
+rows-few bad n answer next l q = few (ltb (lowest bad n) n) (answer (lowest bad n)) next (l (lowest bad n)) q
+
+pub judge-few : (f : List ℕ) (t : Tables) → numberOf (judgeIn f t) ≤ 9
+unfolding judgeIn judgeRows
+judge-few f t =
+    let a9 = refused (openingBad f t) (t .types) BadOpening Pass in
+    let a8 = refused (catchBad f t) (t .catches) BadCatch a9 in
+    let a7 = refused (callBad f t) (t .calls) BadCall a8 in
+    let a6 = refused (flowBad f t) (t .flows) BadFlow a7 in
+    let a5 = refused (nodeBad f t) (t .nodes) BadNode a6 in
+    let a4 = refused (entryBad f t) (t .methods) BadEntry a5 in
+    let a3 = cond (lengthBad f t) BadLength a4 in
+    let w9 = rows-few (openingBad f t) (t .types) BadOpening Pass (λ k. omega arith) (omega arith) in
+    let w8 = rows-few (catchBad f t) (t .catches) BadCatch a9 (λ k. omega arith) w9 in
+    let w7 = rows-few (callBad f t) (t .calls) BadCall a8 (λ k. omega arith) w8 in
+    let w6 = rows-few (flowBad f t) (t .flows) BadFlow a7 (λ k. omega arith) w7 in
+    let w5 = rows-few (nodeBad f t) (t .nodes) BadNode a6 (λ k. omega arith) w6 in
+    let w4 = rows-few (entryBad f t) (t .methods) BadEntry a5 (λ k. omega arith) w5 in
+    let w3 = few (lengthBad f t) BadLength a4 (omega arith) w4 in
+    few (ltb (length f) 14) TooShort (refused (countBad f) 6 BadCount a3) (omega arith) (rows-few (countBad f) 6 BadCount a3 (λ k. omega arith) w3)

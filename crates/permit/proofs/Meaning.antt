@@ -2,6 +2,7 @@
 use Prim.Native.Nat.{ℕ, _≤_, _<_}
 use mathlib.Core.Path.{_≡_, refl, sym, ap, subst, _∙_}
 use mathlib.Core.Bool.{Bool, true, false, cond}
+use mathlib.Core.Logic.{_↔_}
 use mathlib.Core.List.{List}
 use native.Mathlib.Decide.{decLt, decLe}
 use native.Mathlib.Omega.{arith}
@@ -15,7 +16,8 @@ use Rattle.answer.specs.declared.Answer.the-variants.{Pass, BadSheet, BadBlock,
 use Rattle.answer.specs.Number.{numberOf}
 use Rattle.answer.proofs.Unpack.{zero-pass}
 use Rattle.model.specs.Machine.{Overdraws}
-use Rattle.model.specs.Stocks.{doing}
+use Rattle.model.specs.Rules.{Obeys}
+use Rattle.model.specs.Stocks.{permits, doing, stepOf}
 use Rattle.model.proofs.Exact.{never-overdraws}
 use Rattle.tables.specs.declared.Tables.{Tables}
 use Rattle.tables.specs.Trailer.{tablesOf}
@@ -166,17 +168,24 @@ module _ (f s : List ℕ) where
       go m l true e = let v = uncovered-says f s (w .0) m l e in absurd (v .1 (c m (v .0)))
       go m l false e = e
 
+  -- Check accepts a sheet exactly if it is well formed, obeys the rules and covers every draw that it calls reached.
+  abbrev pub Accepted : Type 0
+  Accepted = WellFormed f s × Obeys permits (graphOf f) (λ n. stepOf (doesIn f t n)) (openingIn f t) (sheet f s) × ((n : ℕ) → IsReached f s n → IsCovered f s n)
+
+  was-accepted : {a : Answer} → Checks f s a → a ≡ Pass → Accepted
+  was-accepted (refused n) e = absurd (n e)
+  was-accepted (wrong-length p n) e = let z : _≡_ {A = ℕ} 10 0 = ap numberOf e in absurd (omega arith)
+  was-accepted (ill-formed p q b l h k) e = let z : _≡_ {A = ℕ} 11 0 = ap numberOf e in absurd (omega arith)
+  was-accepted (broken w r h n) e = let z : _≡_ {A = ℕ} 12 0 = ap numberOf e in absurd (omega arith)
+  was-accepted (overdrawn w h n y u k) e = let z : _≡_ {A = ℕ} 13 0 = ap numberOf e in absurd (omega arith)
+  was-accepted (accepted w h k) e = (w, h, k)
+
+  pub accepts : (checkOf f s ≡ Pass) ↔ Accepted
+  accepts = (was-accepted checks, λ a. sym (only (accepted (a .0) (a .1) (a .2))))
+
   -- No graph with an accepted sheet, made by anyone, has a run that overdraws.
-  pub safe : Checks f s Pass → (n : ℕ) → Overdraws (graphOf f) (doing (doesIn f t)) (openingIn f t) n → ⊥
-  safe c = go c refl
-    where
-      go : {a : Answer} → Checks f s a → a ≡ Pass → (n : ℕ) → Overdraws (graphOf f) (doing (doesIn f t)) (openingIn f t) n → ⊥
-      go (refused n) e = absurd (n e)
-      go (wrong-length p n) e = let z : _≡_ {A = ℕ} 10 0 = ap numberOf e in absurd (omega arith)
-      go (ill-formed p q b l h k) e = let z : _≡_ {A = ℕ} 11 0 = ap numberOf e in absurd (omega arith)
-      go (broken w r h n) e = let z : _≡_ {A = ℕ} 12 0 = ap numberOf e in absurd (omega arith)
-      go (overdrawn w h n y u k) e = let z : _≡_ {A = ℕ} 13 0 = ap numberOf e in absurd (omega arith)
-      go (accepted w h k) e = never-overdraws (setting f (w .0)) (sheet f s) h k
+  pub safe : checkOf f s ≡ Pass → (n : ℕ) → Overdraws (graphOf f) (doing (doesIn f t)) (openingIn f t) n → ⊥
+  safe e = let a = accepts .0 e in never-overdraws (setting f (a .0 .0)) (sheet f s) (a .1) (a .2)
 
   -- an answer that is the computed one has its meaning too
   pub both-ensured : {r : Answer} → r ≡ checkOf f s → (r ≡ checkOf f s) × Checks f s r

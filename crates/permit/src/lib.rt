@@ -63,7 +63,7 @@ fn of_whole(f: &[u8], t: Tables, x: Shape, s: &[u8]) -> Answer
     Answer::Pass
 }
 
-// One sheet, for a file that passes.
+// The sheet, for a file that passes.
 fn of_judged(f: &[u8], t: Tables, x: Shape, s: &[u8]) -> Answer
     requires { ⌜ (judgeIn (now f) t ≡ Pass) × Within x ⌝ }
     ensures { λ r. ⌜ r ≡ judgedSheet (now (f .entry)) t x (now (s .entry)) ⌝ }
@@ -88,6 +88,7 @@ fn shape(t: Tables) -> Shape
     }
 }
 
+// The graph file f is judged first, and then the sheet s, whoever made it.
 pub fn check(f: &[u8], s: &[u8]) -> Answer
     ensures equals { λ r. ⌜ r ≡ checkOf (now (f .entry)) (now (s .entry)) ⌝ }
     ensures means { λ r. ⌜ Checks (now (f .entry)) (now (s .entry)) r ⌝ }

@@ -6,7 +6,7 @@ use Rattle.model.specs.Stocks.{permits}
 use Rattle.model.specs.Rounds.{whole-rounds, earlier-rounds}
 use Rattle.rounds.specs.declared.Rounds.{Rounds}
 
--- a call whose method does not return has no whole round
+-- a call whose method does not return has no whole round, and nothing asks for one
 unfoldable pub wholeOf : Effect → Bool → Effect → ℕ → Effect
 wholeOf call true x repeats = whole-rounds permits call x repeats
 wholeOf call false x repeats = call

@@ -6,7 +6,7 @@ ghost use Rattle.model.specs.Stocks.{permits};
 ghost use Rattle.model.specs.Rounds.{lowest-rounds};
 ghost use Rattle.rounds.specs.Rounds.{roundsOf};
 
-// What a call's targets must be at most: `earlier` where a further round begins, `whole` where the last one has returned.
+// What a call's targets must be at most: `earlier` where a round begins, the first or a further one; `whole` where any round has returned.
 pub struct Rounds {
     pub earlier: Effect,
     pub whole: Effect,

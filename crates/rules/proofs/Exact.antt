@@ -76,7 +76,7 @@ module _ (a b : Bool) (l : ℕ) where
       go true false h = absurd (omega arith)
       go false b h = absurd (omega arith)
 
--- an exit that is not marked, and a call that is not, break nothing
+-- an exit that is not marked breaks nothing
 thrown-none : (f : List ℕ) (t : Tables) (x : Shape) (s : List ℕ) (c : Called) (e : ℕ) → marked s (exitAt x (c .method) (1 + e)) ≡ false → thrownBroken f t x s c e ≡ 11
 unfolding thrownBroken
 thrown-none f t x s c e m = rw m refl
@@ -91,7 +91,7 @@ module _ (f : List ℕ) (pass : judgeOf f ≡ Pass) (s : List ℕ) (whole : firs
   abbrev returns : ℕ → Bool
   returns m = marked s (exitAt (shapeOf t) m 0)
 
-  abbrev pub Asks : ℕ → Type 0
+  abbrev Asks : ℕ → Type 0
   Asks q = Demands (setting f pass) T returns q
 
   j : Judged f t
@@ -228,7 +228,7 @@ module _ (f : List ℕ) (pass : judgeOf f ≡ Pass) (s : List ℕ) (whole : firs
         let r = eight-holds (afterCall f t (shapeOf t) s (C k l)) (intoCall f t (shapeOf t) s (C k l)) (thrown k l) (omega arith) .1 in
         omega (arith, thrown-row k l e x, least-under (thrownBroken f t (shapeOf t) s (C k l)) 8 e (omega (arith, x .1)))
 
-    pub good : Asks q
+    good : Asks q
     unfolding startUnder
     good = record {
       at-start = λ e. method-under (shapeOf t) s whole 0 (openingIn f t) (limits f pass .some-method) .0 (holds-above _ 1 q (omega arith) (ok Start 0 (omega arith)));
@@ -284,6 +284,7 @@ module _ (f : List ℕ) (pass : judgeOf f ≡ Pass) (s : List ℕ) (whole : firs
       min-keeps P _ _ (Start, refl)
       (min-keeps P _ _ (Entries, refl) (min-keeps P _ _ (Flow, refl) (min-keeps P _ _ (Catches, refl) (min-keeps P _ _ (Nodes, refl) (Calls, refl)))))
 
+  -- a call that is not marked breaks nothing
   unmarked-row : (k : ℕ) → marked s (nodeAt (shapeOf t) (callNode f t k)) ≡ false → callBroken f t (shapeOf t) s k ≡ 11
   unfolding callBroken calledBroken calledIn
   unmarked-row k m = rw m refl
@@ -329,10 +330,7 @@ module _ (f : List ℕ) (pass : judgeOf f ≡ Pass) (s : List ℕ) (whole : firs
           exit e small p true m =
               let x : T .Exit (callMethod f t k) (suc e) = (call-fit f t k (j .calls k l) .method, omega arith, mark-true s _ (rw (← method-is k l, ← one-add e) m)) in
               leaving-wrong k l y e q small x (sym (thrown-row k l e x) ∙ p) low d
-          exit e small p false m = absurd (omega (arith, unthrown e m))
-            where
-              unthrown : (e : ℕ) → marked s (exitAt (shapeOf t) (C k l .method) (1 + e)) ≡ false → thrownBroken f t (shapeOf t) s (C k l) e ≡ 11
-              unthrown e m = thrown-none f t (shapeOf t) s (C k l) e m
+          exit e small p false m = absurd (omega (arith, thrown-none f t (shapeOf t) s (C k l) e m))
 
       go : (a : Bool) → afterCall f t (shapeOf t) s (C k l) ≡ a → (b : Bool) → intoCall f t (shapeOf t) s (C k l) ≡ b → ⊥
       go false p b r =
@@ -387,7 +385,7 @@ module _ (f : List ℕ) (pass : judgeOf f ≡ Pass) (s : List ℕ) (whole : firs
           call-wrong k l y q (sym (row-is k l y) ∙ e) low d
       go false m = absurd (omega (arith, unmarked-row k m))
 
-  pub bad : brokenOf f t (shapeOf t) s < 11 → Asks (brokenOf f t (shapeOf t) s) → ⊥
+  bad : brokenOf f t (shapeOf t) s < 11 → Asks (brokenOf f t (shapeOf t) s) → ⊥
   bad low d =
       let w = which in
       let h = least-hit (brokenAt f t (shapeOf t) s (w .0)) (countOf t (w .0)) (omega (arith, w .1)) in

@@ -16,12 +16,12 @@ use Rattle.rules.specs.declared.Source.{Source}
 use Rattle.rules.specs.declared.Source.the-variants.{Start, Entries, Flow, Catches, Nodes, Calls}
 use Rattle.rules.specs.Tests.{effectUnder, met, startUnder, afterCall, intoCall, caughtUnder}
 
--- rule r is broken where its test fails
+-- 11, or r where the test of rule r fails
 abbrev pub brokenIf : Bool → ℕ → ℕ
 brokenIf true r = 11
 brokenIf false r = r
 
--- the least of the numbers p gives below n
+-- the least of 11 and the numbers p gives below n
 unfoldable pub leastOf : (ℕ → ℕ) → ℕ → ℕ
 leastOf p zero = 11
 leastOf p (suc n) = min (leastOf p n) (p n)

@@ -34,7 +34,7 @@ unfoldable pub allFor : (ℕ → Bool) → ℕ → ℕ → Bool
 allFor p a zero = true
 allFor p a (suc n) = allFor p a n && p (a + n)
 
--- the node that a row of the flow or of the catches leads to, and whether it is at most e
+-- the node that a row of the flow or of the catches leads to, and whether it is marked and at most e
 abbrev pub targetOf : List ℕ → Tables → Leads → ℕ → ℕ
 targetOf f t Flow j = flowTo f t j
 targetOf f t Catches j = catchTo f t j

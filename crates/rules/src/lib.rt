@@ -122,7 +122,7 @@ fn into_call(f: &[u8], t: Tables, x: Shape, s: &[u8], c: Called) -> bool
     true
 }
 
-// Rule 9, where the exception e is caught at the call: each catch row leads to a node that is at most y.
+// Rule 9, where the exception e is caught at the call: each catch row leads to a node that is marked and at most y.
 fn caught_under(f: &[u8], t: Tables, x: Shape, s: &[u8], node: usize, e: usize, y: Effect) -> bool
     requires { ⌜ (judgeIn (now f) t ≡ Pass) × Within x × (node < 65536) × (e < 8) ⌝ }
     ensures { λ r. ⌜ r ≡ caughtUnder (now (f .entry)) t x (now (s .entry)) node e y ⌝ }
@@ -133,6 +133,13 @@ fn caught_under(f: &[u8], t: Tables, x: Shape, s: &[u8], node: usize, e: usize, 
     rows_under(f, t, x, s, Leads::Catches, y, a, b)
 }
 
+// 11, or the rule's number where its test fails.
+fn unless(holds: bool, rule: usize) -> usize
+    ensures { λ r. ⌜ r ≡ brokenIf holds rule ⌝ }
+{
+    if holds { 11 } else { rule }
+}
+
 // Rules 9 and 10, of a marked call whose method the exception e leaves with y.
 fn leaving(f: &[u8], t: Tables, x: Shape, s: &[u8], node: usize, e: usize, y: Effect) -> usize
     requires { ⌜ (judgeIn (now f) t ≡ Pass) × Within x × (node < 65536) × (e < 8) ⌝ }
@@ -140,15 +147,9 @@ fn leaving(f: &[u8], t: Tables, x: Shape, s: &[u8], node: usize, e: usize, y: Ef
 {
     if rows::uncaught(f, t, node, e) {
         let w = layout::exit_at(x, tables::node_method(f, t, node), 1 + e);
-        if effect_under(s, x, w, y) {
-            return 11;
-        }
-        return 10;
+        return unless(effect_under(s, x, w, y), 10);
     }
-    if caught_under(f, t, x, s, node, e, y) {
-        return 11;
-    }
-    9
+    unless(caught_under(f, t, x, s, node, e, y), 9)
 }
 
 // Rules 9 and 10, of a marked call and the exception e.
@@ -199,13 +200,6 @@ fn of_call(f: &[u8], t: Tables, x: Shape, s: &[u8], k: usize) -> usize
         return 8;
     }
     all_thrown(f, t, x, s, c)
-}
-
-// The number of the rule where its test fails.
-fn unless(holds: bool, rule: usize) -> usize
-    ensures { λ r. ⌜ r ≡ brokenIf holds rule ⌝ }
-{
-    if holds { 11 } else { rule }
 }
 
 // Rule 5 or 6, of node n.

@@ -1,4 +1,4 @@
--- A block that is written reads back, every other block is as it was, and a blank sheet has no word but 0.
+-- A block that is written reads back, every word apart from it is as it was, and a blank sheet has no word but 0.
 use Prim.Native.Nat.{ℕ, _+_, _-_, _*_, _/_, _%_, _≤_, _<_}
 use mathlib.Core.Path.{_≡_, refl, sym, ap, _∙_}
 use mathlib.Core.Bool.{Bool, true, false}

@@ -1,10 +1,6 @@
 use borrow.Author.Needs.{needs}
 use Rattle.rounds.proofs.next.Statement.{statement}
 use Rattle.rounds.proofs.next.Tie as tie
-use Rattle.rounds.proofs.next.Reads as reads
-use Rattle.rounds.proofs.next.Lts as lts
-use Rattle.effect.proofs.both.Reads as both-reads
-use Rattle.effect.proofs.then.Reads as then-reads
 
 then-requires : tie.Need-then-requires
 then-requires c κs = search needs
