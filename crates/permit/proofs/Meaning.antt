@@ -58,7 +58,7 @@ module _ (f s : List ℕ) where
       rw (passes (w .0), eq-eqb _ _ (w .1), n) refl
 
   module _ (w : WellFormed f s) where
-    all-hold : 11 ≤ brokenOf f t x s → (r : ℕ) → Holds f s r
+    pub all-hold : 11 ≤ brokenOf f t x s → (r : ℕ) → Holds f s r
     all-hold h r = elim (decLt r 11) [
       | yes l ↦ rules-below f (w .0) s (whole-of (w .2)) r (omega arith)
       | no l ↦ rules-beyond f (w .0) s (whole-of (w .2)) r (omega arith)

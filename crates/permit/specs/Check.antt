@@ -31,11 +31,14 @@ uncoveredAt f t x s n =
     (coversOf (applyOf (effectAt s (x .types) (nodeAt x n)) (stockAt s (x .types) (methodAt x (nodeMethod f t n)))) (nodeNumber f t n)
     (nodeRights f t n)))
 
--- 12 a sheet rule is broken, 13 overdrawn, 0 pass
+-- 13 overdrawn, 0 pass
+abbrev pub verdictOf : List ℕ → Tables → Shape → List ℕ → Answer
+verdictOf f t x s = cond (ltb (lowest (uncoveredAt f t x s) (t .nodes)) (t .nodes)) (Overdrawn (lowest (uncoveredAt f t x s) (t .nodes))) Pass
+
+-- 12 a sheet rule is broken, else the verdict
 unfoldable pub wholeSheet : List ℕ → Tables → Shape → List ℕ → Answer
 wholeSheet f t x s =
-    cond (ltb (brokenOf f t x s) 11) (Broken (brokenOf f t x s))
-    (cond (ltb (lowest (uncoveredAt f t x s) (t .nodes)) (t .nodes)) (Overdrawn (lowest (uncoveredAt f t x s) (t .nodes))) Pass)
+    cond (ltb (brokenOf f t x s) 11) (Broken (brokenOf f t x s)) (verdictOf f t x s)
 
 -- 10 the sheet's length is wrong, 11 a sheet block is ill formed
 unfoldable pub judgedSheet : List ℕ → Tables → Shape → List ℕ → Answer

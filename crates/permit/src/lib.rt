@@ -9,7 +9,7 @@ ghost use Rattle.answer.specs.declared.Answer.the-variants.{Pass};
 ghost use Rattle.graph.specs.Judge.{judgeIn};
 ghost use Rattle.layout.specs.Layout.{Within};
 ghost use Rattle.rules.specs.Sheet.{shapeOf};
-ghost use Rattle.permit.specs.Check.{uncoveredAt, judgedSheet, wholeSheet, checkOf};
+ghost use Rattle.permit.specs.Check.{uncoveredAt, verdictOf, judgedSheet, wholeSheet, checkOf};
 ghost use Rattle.permit.specs.Meaning.{Checks};
 
 // Node n is a draw, the sheet calls it reached, and its stock there does not cover it. Judged before the node's own step.
@@ -47,6 +47,18 @@ fn first_uncovered(f: &[u8], t: Tables, x: Shape, s: &[u8]) -> usize
     count
 }
 
+// The draws: 13 with the lowest node that is not covered, or 0.
+pub fn verdict(f: &[u8], t: Tables, x: Shape, s: &[u8]) -> Answer
+    requires { ⌜ Within x ⌝ }
+    ensures { λ r. ⌜ r ≡ verdictOf (now (f .entry)) t x (now (s .entry)) ⌝ }
+{
+    let n = first_uncovered(f, t, x, s);
+    if n < t.nodes as usize {
+        return Answer::Overdrawn(n as u16);
+    }
+    Answer::Pass
+}
+
 // The rules and the draws, of a sheet with no ill-formed block.
 fn of_whole(f: &[u8], t: Tables, x: Shape, s: &[u8]) -> Answer
     requires { ⌜ (judgeIn (now f) t ≡ Pass) × Within x ⌝ }
@@ -56,11 +68,7 @@ fn of_whole(f: &[u8], t: Tables, x: Shape, s: &[u8]) -> Answer
     if rule < 11 {
         return Answer::Broken(rule as u16);
     }
-    let n = first_uncovered(f, t, x, s);
-    if n < t.nodes as usize {
-        return Answer::Overdrawn(n as u16);
-    }
-    Answer::Pass
+    verdict(f, t, x, s)
 }
 
 // The sheet, for a file that passes.
@@ -78,7 +86,8 @@ fn of_judged(f: &[u8], t: Tables, x: Shape, s: &[u8]) -> Answer
     of_whole(f, t, x, s)
 }
 
-fn shape(t: Tables) -> Shape
+// The shape of the sheet of a file with the tables t.
+pub fn shape(t: Tables) -> Shape
     ensures { λ r. ⌜ r ≡ shapeOf t ⌝ }
 {
     Shape {

@@ -55,7 +55,7 @@ module _ (x : Shape) (s : List ℕ) (w : ℕ) where
 module _ (x : Shape) (s : List ℕ) (whole : firstIll s x ≡ blockCount x) where
   open Sheet (sheetIn x s) using (Called, stock, Exit, exit, Node, node)
 
-  block-formed : (b : ℕ) → b < blockCount x → Formed s x b
+  pub block-formed : (b : ℕ) → b < blockCount x → Formed s x b
   block-formed b l = formed s x b (is-lowest (illBlock s x) (blockCount x) .before b (omega (arith, whole)))
 
   node-normal : (n : ℕ) → Node n → normalOf (node n) ≡ true

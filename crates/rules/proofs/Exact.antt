@@ -97,10 +97,10 @@ module _ (f : List ℕ) (pass : judgeOf f ≡ Pass) (s : List ℕ) (whole : firs
   j : Judged f t
   j = judged f t pass
 
-  marked-of : (m : ℕ) → m < t .methods → returns m ≡ true → T .Exit m 0
+  pub marked-of : (m : ℕ) → m < t .methods → returns m ≡ true → T .Exit m 0
   marked-of m l h = (l, omega arith, mark-true s _ h)
 
-  of-marked : (m : ℕ) → T .Exit m 0 → returns m ≡ true
+  pub of-marked : (m : ℕ) → T .Exit m 0 → returns m ≡ true
   of-marked m y = true-mark s _ (y .2)
 
   not-return : {k : ℕ} → k ≡ throwKind → k ≡ returnKind → ⊥
@@ -132,7 +132,7 @@ module _ (f : List ℕ) (pass : judgeOf f ≡ Pass) (s : List ℕ) (whole : firs
     abbrev m : ℕ
     m = callMethod f t k
 
-    method-of : nodeMethod f t n < t .methods
+    pub method-of : nodeMethod f t n < t .methods
     method-of = node-fit f t n (j .nodes n (call-fit f t k (j .calls k l) .node)) .method
 
     node-is : C .node ≡ n
@@ -147,14 +147,14 @@ module _ (f : List ℕ) (pass : judgeOf f ≡ Pass) (s : List ℕ) (whole : firs
     unfolding calledIn
     returns-is = refl
 
-    whole-is : T .Node n → returns m ≡ true → C .rounds .whole ≡ whole-rounds permits (T .node n) (T .exit m 0) (nodeCount f t n)
+    pub whole-is : T .Node n → returns m ≡ true → C .rounds .whole ≡ whole-rounds permits (T .node n) (T .exit m 0) (nodeCount f t n)
     unfolding calledIn roundsOf wholeOf
     whole-is y r = rw (true-mark s (nodeAt (shapeOf t) n) (y .1), r) refl
 
     abbrev before : Effect
     before = earlier-rounds permits (T .node n) (returns m) (T .exit m 0) (nodeCount f t n)
 
-    earlier-is : T .Node n → C .rounds .earlier ≡ before
+    pub earlier-is : T .Node n → C .rounds .earlier ≡ before
     unfolding calledIn roundsOf
     earlier-is y = rw (true-mark s (nodeAt (shapeOf t) n) (y .1)) refl
 
@@ -289,7 +289,7 @@ module _ (f : List ℕ) (pass : judgeOf f ≡ Pass) (s : List ℕ) (whole : firs
   unfolding callBroken calledBroken calledIn
   unmarked-row k m = rw m refl
 
-  called : (k : ℕ) → k < t .calls → graphOf f .Call (callNode f t k)
+  pub called : (k : ℕ) → k < t .calls → graphOf f .Call (callNode f t k)
   called k l = let fit = call-fit f t k (j .calls k l) in (fit .node, fit .kind)
 
   -- 9 and 10, of a marked call: no exception breaks the rule q that is asked

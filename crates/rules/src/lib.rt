@@ -52,7 +52,7 @@ pub enum Leads {
 }
 
 // The node that row j leads to.
-fn target(f: &[u8], t: Tables, table: Leads, j: usize) -> usize
+pub fn target(f: &[u8], t: Tables, table: Leads, j: usize) -> usize
     requires { ⌜ j < 65536 ⌝ }
     ensures { λ r. ⌜ (r ≡ targetOf (now (f .entry)) t table j) × (r < 65536) ⌝ }
 {
@@ -224,7 +224,7 @@ pub enum Source {
     Calls,
 }
 
-fn count(t: Tables, source: Source) -> usize
+pub fn count(t: Tables, source: Source) -> usize
     ensures { λ r. ⌜ (r ≡ countOf t source) × (r < 65536) ⌝ }
 {
     match source {

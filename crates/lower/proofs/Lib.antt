@@ -1,0 +1,8 @@
+pub mod Good
+pub mod Numbers
+pub mod Stands
+pub mod Rank
+pub mod Bytes
+pub mod Hits
+pub mod Put
+pub mod Block

@@ -1,0 +1,216 @@
+-- What may stand in a block: the operations keep to it, and so do the file's steps and opening stock and the blocks of a
+-- well-formed sheet.
+use Prim.Native.Nat.{ℕ, zero, suc, _+_, _-_, _*_, _≤_, _<_}
+use mathlib.Core.Path.{_≡_, refl, sym, subst, _∙_}
+use mathlib.Core.Bool.{Bool, true, false}
+use mathlib.Core.List.{List}
+use lib.Bits.{bitOr, and-le-l, and-le-r}
+use lib.Dec.{leb, eqb}
+use borrow.Author.Tests.{le-leb, ne-eqb}
+use native.Mathlib.Decide.{ℕ-discrete, decLt}
+use native.Mathlib.Omega.{arith}
+use Rattle.words.proofs.Read.{word-lt}
+use Rattle.single.specs.declared.Held.{Held}
+use Rattle.single.specs.declared.One.{One}
+use Rattle.single.specs.Number.{less, left, countAfter, rightsAfter, normDrop, thenCap, sumDrop, rank, largerDrop}
+use Rattle.single.specs.Single.{normalForm, idle, drawn, granted, applyOne, thenOne, bothOne, lowerHeld}
+use Rattle.effect.specs.declared.Stock.{Stock}
+use Rattle.effect.specs.declared.Effect.{Effect}
+use Rattle.effect.specs.Six.{heldAt, stockOf, noneHeld, oneAt, effectOf}
+use Rattle.effect.specs.Whole.{normalOf, nothingDone, oneIf, drawOf, grantOf, applyOf, thenOf, bothOf, lowerOf}
+use Rattle.effect.proofs.Six.{all-i, stock-at, effect-at}
+use Rattle.effect.proofs.Laws.{Fits, nothing-normal, draw-normal, grant-normal, then-normal, both-normal, normal-at}
+use Rattle.model.specs.Stocks.{permits, Does, plain, stepOf}
+use Rattle.model.specs.Rounds.{lowest-rounds, whole-rounds, earlier-rounds}
+use Rattle.answer.specs.declared.Answer.the-variants.{Pass}
+use Rattle.tables.specs.Trailer.{tablesOf}
+use Rattle.tables.specs.Kinds.{grantKind, drawKind}
+use Rattle.tables.specs.Fields.{nodeKind, nodeRights, openingRights}
+use Rattle.refuse.proofs.Fit.{node-fit, opening-fit}
+use Rattle.graph.specs.Judge.{judgeOf}
+use Rattle.graph.proofs.Judged.{judged}
+use Rattle.nodes.specs.Nodes.{doesIn, openingAt, openingIn}
+use Rattle.nodes.proofs.Cases.{does-outside, does-grant, does-draw, does-plain, opening-some, opening-none}
+use Rattle.layout.specs.declared.Shape.{Shape}
+use Rattle.layout.specs.Layout.{methodAt, exitAt, nodeAt, blockCount, blockAt, isStock}
+use Rattle.layout.proofs.Blocks.{block-method, block-exit, block-node}
+use Rattle.sheet.specs.Read.{markAt, stockAt, effectAt}
+use Rattle.sheet.proofs.Back.{normal-fits, stock-read, effect-read}
+use Rattle.formed.specs.Ill.{countsFit, firstIll}
+use Rattle.formed.proofs.Judged.{counts-le}
+use Rattle.rules.proofs.Blocks.{block-formed}
+use Rattle.lower.proofs.Good.{Stands, StockStands}
+use Rattle.lower.proofs.Numbers.{method-stock, node-effect, exit-effect}
+
+-- An effect that is given type by type stands if it is normal, its rights are words, and nothing is done to a type past the t.
+module _ (t : ℕ) (g : ℕ → One) where
+  effect-stands : normalOf (effectOf g) ≡ true → ((k : ℕ) → k < 6 → g k .keepmax < 65536) → ((k : ℕ) → t ≤ k → k < 6 → g k ≡ idle)
+      → Stands t (effectOf g)
+  effect-stands n m r =
+      record {
+        normal = n;
+        fits = record {
+          six = refl;
+          fit = λ k l. normal-fits (oneAt (effectOf g) k) (normal-at (effectOf g) n k l) (subst (λ (o : One). o .keepmax < 65536) (sym (effect-at g k l)) (m k l));
+          rest = λ k u l. effect-at g k l ∙ r k u l;
+        };
+      }
+
+-- and a stock, if its rights are words, its counts are at most 255, and nothing is held of a type past the t
+module _ (t : ℕ) (g : ℕ → Held) where
+  stock-stands : ((k : ℕ) → k < 6 → Fits (g k)) → ((k : ℕ) → t ≤ k → k < 6 → g k ≡ noneHeld) → StockStands t (stockOf g)
+  unfolding countsFit
+  stock-stands m r =
+      let at : (k : ℕ) → k < 6 → heldAt (stockOf g) k ≡ g k = stock-at g in
+      let fit : (k : ℕ) → k < 6 → Fits (heldAt (stockOf g) k) = λ k l. subst Fits (sym (at k l)) (m k l) in
+      record {
+        counts = all-i (λ (k : ℕ). leb (heldAt (stockOf g) k .count) 255) (λ k l. le-leb (heldAt (stockOf g) k .count) 255 (fit k l .1));
+        fits = record {
+          six = refl;
+          fit = λ k l. record { rights-fit = fit k l .0; count-fits = omega (arith, fit k l .1) };
+          rest = λ k u l. at k l ∙ r k u l;
+        };
+      }
+
+pub nothing-stands : (t : ℕ) → Stands t nothingDone
+unfolding nothingDone idle
+nothing-stands t = effect-stands t (λ k. idle) nothing-normal (λ k l. omega arith) (λ k u l. refl)
+
+-- what is done to a type past the t
+then-idle : thenOne idle idle ≡ idle
+unfolding thenOne normalForm idle rightsAfter thenCap sumDrop normDrop less
+then-idle = refl
+
+both-idle : bothOne idle idle ≡ idle
+unfolding bothOne normalForm idle largerDrop rank normDrop
+both-idle = refl
+
+apply-idle : applyOne idle noneHeld ≡ noneHeld
+unfolding applyOne idle rightsAfter countAfter left less
+apply-idle = refl
+
+lower-none : lowerHeld noneHeld noneHeld ≡ noneHeld
+unfolding lowerHeld
+lower-none = refl
+
+module _ (t : ℕ) (a b : Effect) (p : Stands t a) (q : Stands t b) where
+  pub then-stands : Stands t (thenOf a b)
+  unfolding thenOf thenOne normalForm rightsAfter
+  then-stands =
+      effect-stands t (λ k. thenOne (oneAt a k) (oneAt b k)) (then-normal a b)
+      (λ k l. omega (arith, and-le-r (bitOr (oneAt a k .keepmax) (oneAt b k .keepin)) (oneAt b k .keepmax), q .fits .fit k l .keepmax-fits))
+      (λ k u l. (λ i. thenOne (p .fits .rest k u l i) (q .fits .rest k u l i)) ∙ then-idle)
+
+  pub both-stands : Stands t (bothOf a b)
+  unfolding bothOf bothOne normalForm
+  both-stands =
+      effect-stands t (λ k. bothOne (oneAt a k) (oneAt b k)) (both-normal a b)
+      (λ k l. omega (arith, and-le-r (oneAt a k .keepmax) (oneAt b k .keepmax), q .fits .fit k l .keepmax-fits))
+      (λ k u l. (λ i. bothOne (p .fits .rest k u l i) (q .fits .rest k u l i)) ∙ both-idle)
+
+pub apply-stands : (t : ℕ) (e : Effect) (h : Stock) → Stands t e → StockStands t h → StockStands t (applyOf e h)
+unfolding applyOf applyOne rightsAfter countAfter
+apply-stands t e h p q =
+    stock-stands t (λ k. applyOne (oneAt e k) (heldAt h k))
+    (λ k l. (omega (arith, and-le-r (bitOr (heldAt h k .rights) (oneAt e k .keepin)) (oneAt e k .keepmax), p .fits .fit k l .keepmax-fits), omega arith))
+    (λ k u l. (λ i. applyOne (p .fits .rest k u l i) (q .fits .rest k u l i)) ∙ apply-idle)
+
+pub lower-stands : (t : ℕ) (h g : Stock) → StockStands t h → StockStands t g → StockStands t (lowerOf h g)
+unfolding lowerOf lowerHeld
+lower-stands t h g p q =
+    stock-stands t (λ k. lowerHeld (heldAt h k) (heldAt g k))
+    (λ k l. (omega (arith, and-le-l (heldAt h k .rights) (heldAt g k .rights), p .fits .fit k l .rights-fit), omega (arith, counts-le h (p .counts) k l)))
+    (λ k u l. (λ i. lowerHeld (p .fits .rest k u l i) (q .fits .rest k u l i)) ∙ lower-none)
+
+-- the rounds of a call
+lowest-stands : (t : ℕ) (x : Effect) → Stands t x → (j : ℕ) → Stands t (lowest-rounds permits x j)
+unfolding lowest-rounds
+lowest-stands t x h zero = h
+lowest-stands t x h (suc j) =
+    both-stands t x (thenOf (lowest-rounds permits x j) x) h (then-stands t (lowest-rounds permits x j) x (lowest-stands t x h j) h)
+
+module _ (t : ℕ) (call x : Effect) (c : Stands t call) where
+  pub whole-rounds-stands : Stands t x → (r : ℕ) → Stands t (whole-rounds permits call x r)
+  unfolding whole-rounds
+  whole-rounds-stands h r = then-stands t call (lowest-rounds permits x (r - 1)) c (lowest-stands t x h (r - 1))
+
+  pub earlier-rounds-stands : (marked : Bool) → (marked ≡ true → Stands t x) → (r : ℕ) → Stands t (earlier-rounds permits call marked x r)
+  unfolding earlier-rounds
+  earlier-rounds-stands marked h zero = c
+  earlier-rounds-stands marked h (suc zero) = c
+  earlier-rounds-stands false h (suc (suc r)) = c
+  earlier-rounds-stands true h (suc (suc r)) =
+      both-stands t call (thenOf call (lowest-rounds permits x r)) c
+      (then-stands t call (lowest-rounds permits x r) c (lowest-stands t x (h refl) r))
+
+-- the step of a node: a draw or a grant of a type that the file has
+module _ (t j : ℕ) (h : j < t) where
+  only-stands : (x : One) → normalOf (effectOf (λ k. oneIf (eqb k j) x)) ≡ true → x .keepmax < 65536 → Stands t (effectOf (λ k. oneIf (eqb k j) x))
+  unfolding idle
+  only-stands x n m =
+      effect-stands t (λ k. oneIf (eqb k j) x) n (λ k l. keeps (eqb k j)) (λ k u l. simp (ne-eqb k j (λ e. omega arith)))
+    where
+      keeps : (b : Bool) → oneIf b x .keepmax < 65536
+      keeps true = m
+      keeps false = omega arith
+
+  draw-stands : Stands t (drawOf j)
+  unfolding drawOf drawn
+  draw-stands = only-stands drawn (draw-normal j) (omega arith)
+
+  grant-stands : (p m : ℕ) → p < 65536 → Stands t (grantOf j p m)
+  unfolding grantOf granted normalForm
+  grant-stands p m l = only-stands (granted p m) (grant-normal j p m) l
+
+module _ (f : List ℕ) (pass : judgeOf f ≡ Pass) where
+  pub step-stands : (n : ℕ) → Stands (tablesOf f .types) (stepOf (doesIn f (tablesOf f) n))
+  unfolding stepOf nodeRights
+  step-stands n = elim (decLt n (tablesOf f .nodes)) [
+    | no h ↦ here plain (does-outside f (tablesOf f) n (omega arith)) (nothing-stands (tablesOf f .types))
+    | yes h ↦
+        let fit = node-fit f (tablesOf f) n (judged f (tablesOf f) pass .nodes n h) in
+        elim (ℕ-discrete (nodeKind f (tablesOf f) n) grantKind) [
+          | yes g ↦ here _ (does-grant f (tablesOf f) n h g) (grant-stands (tablesOf f .types) _ (fit .grant-type g) _ _ (word-lt f _))
+          | no g ↦ elim (ℕ-discrete (nodeKind f (tablesOf f) n) drawKind) [
+            | yes d ↦ here _ (does-draw f (tablesOf f) n h d) (draw-stands (tablesOf f .types) _ (fit .draw-type d))
+            | no d ↦ here plain (does-plain f (tablesOf f) n h g d) (nothing-stands (tablesOf f .types))
+          ]
+        ]
+  ]
+    where
+      here : (d : Does) → doesIn f (tablesOf f) n ≡ d → Stands (tablesOf f .types) (stepOf d) → Stands (tablesOf f .types) (stepOf (doesIn f (tablesOf f) n))
+      here d e h = subst (λ (c : Does). Stands (tablesOf f .types) (stepOf c)) (sym e) h
+
+  pub opening-stands : StockStands (tablesOf f .types) (openingIn f (tablesOf f))
+  unfolding openingIn openingRights
+  opening-stands = stock-stands (tablesOf f .types) (openingAt f (tablesOf f)) (λ k l. fit k) (λ k u l. sym (opening-none f (tablesOf f) k u))
+    where
+      fit : (k : ℕ) → Fits (openingAt f (tablesOf f) k)
+      fit k = elim (decLt k (tablesOf f .types)) [
+        | yes h ↦ subst Fits (opening-some f (tablesOf f) k _ _ h refl refl) (word-lt f _, opening-fit f (tablesOf f) k (judged f (tablesOf f) pass .opening k h))
+        | no h ↦ subst Fits (opening-none f (tablesOf f) k (omega arith)) (omega arith, omega arith)
+      ]
+
+-- what a marked block says, in a sheet with no ill-formed block
+module _ (x : Shape) (s : List ℕ) (whole : firstIll s x ≡ blockCount x) where
+  module _ (b : ℕ) (l : b < blockCount x) (m : markAt s (blockAt x b) ≡ 1) where
+    pub block-stands : isStock x b ≡ false → Stands (x .types) (effectAt s (x .types) (blockAt x b))
+    block-stands q = record { normal = block-formed x s whole b l .normal q m; fits = effect-read s (x .types) (blockAt x b) }
+
+    pub stock-block-stands : isStock x b ≡ true → StockStands (x .types) (stockAt s (x .types) (blockAt x b))
+    stock-block-stands q = record { counts = block-formed x s whole b l .counts q m; fits = stock-read s (x .types) (blockAt x b) }
+
+  pub read-stands : (n : ℕ) → n < x .nodes → markAt s (nodeAt x n) ≡ 1 → Stands (x .types) (effectAt s (x .types) (nodeAt x n))
+  read-stands n l m =
+      let e = block-node x n in
+      rw e at (block-stands (10 * x .methods + n) (omega arith) (rw e m) (node-effect x n))
+
+  pub exit-read-stands : (m y : ℕ) → m < x .methods → y < 9 → markAt s (exitAt x m y) ≡ 1 → Stands (x .types) (effectAt s (x .types) (exitAt x m y))
+  exit-read-stands m y l k c =
+      let e = block-exit x m l y k in
+      rw e at (block-stands (10 * m + 1 + y) (omega arith) (rw e c) (exit-effect x m y k))
+
+  pub stock-read-stands : (m : ℕ) → m < x .methods → markAt s (methodAt x m) ≡ 1 → StockStands (x .types) (stockAt s (x .types) (methodAt x m))
+  stock-read-stands m l c =
+      let e = block-method x m l in
+      rw e at (stock-block-stands (10 * m) (omega arith) (rw e c) (method-stock x m l))

@@ -1,0 +1,35 @@
+use Prim.Native.Nat.{_<_, _≤_}
+use mathlib.Core.Path.{ap, _∙_}
+use native.Mathlib.Omega.{arith}
+use denote.Ref.{now}
+use borrow.Author.Needs.{needs}
+use borrow.Author.Tests.{lt-ltb, le-ltb}
+use Rattle.words.specs.Lowest.{lowest}
+use Rattle.answer.specs.declared.Answer.the-variants.{Overdrawn}
+use Rattle.permit.specs.Check.{uncoveredAt}
+use Rattle.permit.proofs.verdict.Statement.{statement}
+use Rattle.permit.proofs.verdict.Tie as tie
+
+returns : tie.Need-returns
+returns c =
+    let first = c .before .before in
+    let a = first .before .before .before .args in
+    let k : lowest (uncoveredAt (now (a .f)) (a .t) (a .x) (now (a .s))) (a .t .nodes) < a .t .nodes = rw (← first .first-uncovered .ensures .0) (c .if1 .taken) in
+    ap Overdrawn (first .first-uncovered .ensures .0) ∙ simp (lt-ltb _ _ k)
+
+returns-2 : tie.Need-returns-2
+returns-2 c =
+    let first = c .before .before in
+    let a = first .before .before .before .args in
+    let k : a .t .nodes ≤ lowest (uncoveredAt (now (a .f)) (a .t) (a .x) (now (a .s))) (a .t .nodes) = rw (← first .first-uncovered .ensures .0) (c .if1 .left) in
+    simp (le-ltb _ _ k)
+
+pub verdict-spec : {M : Type 1} → statement M
+verdict-spec =
+    tie.close
+    (tie.spec
+    (λ c κs. c .before .before .pre)
+    (λ c. search needs)
+    (λ c. omega (arith, c .before .before .first-uncovered .ensures .1))
+    returns
+    returns-2)

@@ -1,0 +1,58 @@
+-- A row, a source and a whole sweep leave a good sheet as it was, or make it a lower good one.
+use Prim.Native.Nat.{ℕ, _<_}
+use mathlib.Core.Path.{_≡_, refl}
+use mathlib.Core.Bool.{Bool, true, false}
+use mathlib.Core.List.{List}
+use native.Mathlib.Omega.{arith}
+use Rattle.answer.specs.declared.Answer.the-variants.{Pass}
+use Rattle.tables.specs.declared.Tables.{Tables}
+use Rattle.tables.specs.Trailer.{tablesOf}
+use Rattle.graph.specs.Judge.{judgeOf}
+use Rattle.layout.specs.declared.Shape.{Shape}
+use Rattle.rules.specs.declared.Source.{Source}
+use Rattle.rules.specs.declared.Source.the-variants.{Start, Entries, Flow, Catches, Nodes, Calls}
+use Rattle.rules.specs.Broken.{countOf}
+use Rattle.rules.specs.Sheet.{shapeOf}
+use Rattle.lower.proofs.Good.{Good, Done}
+use Rattle.sweep.specs.Turn.{turned}
+use Rattle.sweep.specs.Sweep.{sourceAt, rowTo, rowHolds, tableTo, tableHolds, sweepTo, sweepHolds}
+use Rattle.sweep.proofs.Compose.{done-turn}
+use Rattle.sweep.proofs.Rows.{start-done, entry-done, flow-done, catch-done, leave-done}
+use Rattle.sweep.proofs.Calls.{called-done}
+
+-- the turned step is one of the n, and turned again it is the first
+pub turned-inside : (backwards : Bool) (n k : ℕ) → k < n → turned backwards n k < n
+turned-inside true n k l = omega arith
+turned-inside false n k l = l
+
+pub turned-twice : (backwards : Bool) (n k : ℕ) → k < n → turned backwards n (turned backwards n k) ≡ k
+turned-twice true n k l = omega arith
+turned-twice false n k l = refl
+
+module _ (f : List ℕ) (pass : judgeOf f ≡ Pass) where
+  abbrev t : Tables
+  t = tablesOf f
+
+  abbrev x : Shape
+  x = shapeOf t
+
+  pub row-done : (source : Source) (k : ℕ) → k < countOf t source → (s : List ℕ) → Good f pass s → Done f pass s (rowTo f t x source k s) (rowHolds f t x source s k)
+  row-done Start k l s G = start-done f pass s G
+  row-done Entries k l s G = entry-done f pass s G k l
+  row-done Flow k l s G = flow-done f pass s G k l
+  row-done Catches k l s G = catch-done f pass s G k l
+  row-done Nodes k l s G = leave-done f pass s G k l
+  row-done Calls k l s G = called-done f pass s G k l
+
+  pub table-done : (backwards : Bool) (source : Source) (s : List ℕ) → Good f pass s → Done f pass s (tableTo f t x backwards source s) (tableHolds f t x backwards source s)
+  unfolding tableTo tableHolds
+  table-done backwards source =
+      let n = countOf t source in
+      done-turn f pass (λ k. rowTo f t x source (turned backwards n k)) (λ s k. rowHolds f t x source s (turned backwards n k)) 0 n
+      (λ k a l. row-done source (turned backwards n k) (turned-inside backwards n k (omega arith)))
+
+  pub sweep-done : (backwards : Bool) (s : List ℕ) → Good f pass s → Done f pass s (sweepTo f t x backwards s) (sweepHolds f t x backwards s)
+  unfolding sweepTo sweepHolds
+  sweep-done backwards =
+      done-turn f pass (λ i. tableTo f t x backwards (sourceAt i)) (λ s i. tableHolds f t x backwards (sourceAt i) s) 0 6
+      (λ i a l. table-done backwards (sourceAt i))

@@ -1,0 +1,29 @@
+use mathlib.Core.Path.{_∙_}
+use native.Mathlib.Omega.{arith}
+use borrow.Author.Needs.{needs}
+use Rattle.rules.specs.Tests.{startUnder}
+use Rattle.sweep.specs.Sweep.{startTo}
+use Rattle.sweep.proofs.Inside.{some-method, method-inside}
+use Rattle.sweep.proofs.at_start.Statement.{statement}
+use Rattle.sweep.proofs.at_start.Tie as tie
+
+returns : tie.Need-returns
+unfolding startUnder startTo
+returns c =
+    let to = c .before .before in
+    let w = to .before .before .method-at .ensures .0 in
+    let h = to .before .opening .ensures in
+    (to .stock-to .ensures .0 ∙ simp (w, h), to .stock-to .ensures .1 ∙ simp (w, h))
+
+pub at-start-spec : {M : Type 1} → statement M
+at-start-spec =
+    tie.close
+    (tie.spec
+    (λ c κs. (c .before .before .before .pre .within, omega arith))
+    (λ c κs. search needs)
+    (λ c κs.
+    let r = c .before .before .before .before .before .pre in
+    let w = c .before .method-at .ensures in
+    (r .within, omega (arith, w .1), omega (arith, w .0, method-inside r 0 (some-method r))))
+    (λ c. search needs)
+    returns)

@@ -1,0 +1,6 @@
+pub mod Meaning
+pub mod Agree
+pub mod Words
+pub mod Same
+pub mod Only
+pub mod Sweeping

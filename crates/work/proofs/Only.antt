@@ -1,0 +1,106 @@
+-- For each file and each lent sheet there is no second answer and no second content.
+use Prim.Native.Nat.{ℕ, _*_, _%_, _≤_, _<_}
+use mathlib.Core.Path.{_≡_, refl, sym, ap, _∙_}
+use mathlib.Core.List.{List}
+use native.Mathlib.Decide.{decLt, ℕ-discrete}
+use native.Mathlib.Omega.{arith}
+use lib.ListN.{length}
+use borrow.Author.Tests.{lt-ltb, le-ltb, eq-eqb, ne-eqb}
+use Rattle.answer.specs.declared.Answer.{Answer}
+use Rattle.answer.specs.declared.Answer.the-variants.{Pass, BadSheet}
+use Rattle.model.specs.Rules.{Under}
+use Rattle.model.specs.Stocks.{permits}
+use Rattle.tables.specs.Trailer.{tablesOf}
+use Rattle.graph.specs.Judge.{judgeOf}
+use Rattle.graph.specs.Graph.{graphOf}
+use Rattle.graph.proofs.Whole.{limits}
+use Rattle.layout.specs.declared.Shape.{Shape}
+use Rattle.layout.specs.Layout.{methodAt, exitAt, nodeAt, sheetBytes, blockCount, blockSize, blockAt}
+use Rattle.layout.proofs.Blocks.{at-method, at-exit, at-node}
+use Rattle.sheet.proofs.Same.{SameWords}
+use Rattle.formed.proofs.Judged.{Formed, formed}
+use Rattle.rules.specs.Sheet.{shapeOf}
+use Rattle.permit.specs.Check.{checkOf}
+use Rattle.permit.specs.Meaning.{sheet}
+use Rattle.work.specs.Meaning.{Worked, WorksOut, refused, wrong-length, overdrawn, passes}
+use Rattle.work.proofs.Agree.{wrote, agree}
+use Rattle.work.proofs.Words.{same-sheet}
+use Rattle.work.proofs.Same.{StockUnder, EffectUnder, stock-settled, effect-settled}
+
+module _ (f : List ℕ) where
+  abbrev x : Shape
+  x = shapeOf (tablesOf f)
+
+  -- one sheet under another, block by block
+  module _ (s r : List ℕ) (u : Under permits (graphOf f) (sheet f s) (sheet f r)) where
+    method-under : (m : ℕ) → m < x .methods → StockUnder (x .types) (methodAt x m) s r
+    method-under m l k = let y = u .methods-under m (l, k) in (y .0 .1, y .1)
+
+    exit-under : (m e : ℕ) → m < x .methods → e < 9 → EffectUnder (x .types) (exitAt x m e) s r
+    exit-under m e l h k = let y = u .exits-under m e l (l, h, k) in (y .0 .2, y .1)
+
+    node-under : (n : ℕ) → n < x .nodes → EffectUnder (x .types) (nodeAt x n) s r
+    node-under n l k = let y = u .nodes-under n l (l, k) in (y .0 .1, y .1)
+
+  -- two sheets that are worked out are each under the other
+  module _ (r q : List ℕ) (v : Worked f r) (w : Worked f q) where
+    same-block : (b : ℕ) → b < blockCount x → SameWords r q (blockAt x b) (blockSize x b)
+    same-block b l = elim (decLt b (10 * x .methods)) [
+      | yes h ↦ elim (ℕ-discrete (b % 10) 0) [
+        | yes z ↦
+            let e = at-method x b h z in
+            stock-settled x few r q b g k (simp (lt-ltb _ _ h, eq-eqb _ _ z))
+            (rw e (method-under r q high _ (omega arith))) (rw e (method-under q r low _ (omega arith)))
+        | no z ↦
+            let e = at-exit x b h z in
+            effect-settled x few r q b g k (simp (lt-ltb _ _ h, ne-eqb _ _ z))
+            (rw e (exit-under r q high _ _ (omega arith) (omega arith))) (rw e (exit-under q r low _ _ (omega arith) (omega arith)))
+      ]
+      | no h ↦
+          let e = at-node x b (omega arith) in
+          effect-settled x few r q b g k (simp (le-ltb b (10 * x .methods) (omega arith)))
+          (rw e (node-under r q high _ (omega arith))) (rw e (node-under q r low _ (omega arith)))
+    ]
+      where
+        few : x .types ≤ 6
+        few = limits f (v .well-formed .0) .types
+
+        high : Under permits (graphOf f) (sheet f r) (sheet f q)
+        high = w .greatest r (v .obeys)
+
+        low : Under permits (graphOf f) (sheet f q) (sheet f r)
+        low = v .greatest q (w .obeys)
+
+        g : Formed r x b
+        g = formed r x b (v .well-formed .2 b l)
+
+        k : Formed q x b
+        k = formed q x b (w .well-formed .2 b l)
+
+    -- There is only one sheet to write.
+    pub one-sheet : r ≡ q
+    one-sheet = same-sheet x r q (v .well-formed .1) (w .well-formed .1) (v .bytes) (w .bytes) same-block
+
+  module _ (s : List ℕ) where
+    if-refused : {r : List ℕ} {a : Answer} → (judgeOf f ≡ Pass → ⊥) → WorksOut f s r a → (a ≡ judgeOf f) × (r ≡ s)
+    if-refused n (refused m e) = (refl, e)
+    if-refused n (wrong-length p m e) = absurd (n p)
+    if-refused n (overdrawn l w m o h) = absurd (n (w .well-formed .0))
+    if-refused n (passes l w o) = absurd (n (w .well-formed .0))
+
+    if-wrong : {r : List ℕ} {a : Answer} → judgeOf f ≡ Pass → (length s ≡ sheetBytes x → ⊥) → WorksOut f s r a → (a ≡ BadSheet) × (r ≡ s)
+    if-wrong p n (refused m e) = absurd (m p)
+    if-wrong p n (wrong-length _ m e) = (refl, e)
+    if-wrong p n (overdrawn l w m o h) = absurd (n l)
+    if-wrong p n (passes l w o) = absurd (n l)
+
+    if-worked : {r q : List ℕ} {a b : Answer} → judgeOf f ≡ Pass → length s ≡ sheetBytes x → WorksOut f s r a → WorksOut f s q b → (a ≡ b) × (r ≡ q)
+    if-worked {r} {q} p l v w =
+        let e = one-sheet r q (wrote f s r v p l .0) (wrote f s q w p l .0) in
+        (sym (agree f s r v p l) ∙ ap (checkOf f) e ∙ agree f s q w p l, e)
+
+    pub only : (r q : List ℕ) {a b : Answer} → WorksOut f s r a → WorksOut f s q b → (a ≡ b) × (r ≡ q)
+    only r q (refused n e) w = let u = if-refused n w in (sym (u .0), e ∙ sym (u .1))
+    only r q (wrong-length p n e) w = let u = if-wrong p n w in (sym (u .0), e ∙ sym (u .1))
+    only r q (overdrawn l v n o h) w = if-worked (v .well-formed .0) l (overdrawn l v n o h) w
+    only r q (passes l v o) w = if-worked (v .well-formed .0) l (passes l v o) w

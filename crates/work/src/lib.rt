@@ -1,0 +1,50 @@
+// Work out: a graph file in, the verdict and the permission sheet out.
+use answer::Answer;
+use layout::Shape;
+use tables::Tables;
+ghost use mathlib.Core.Path.{_≡_};
+ghost use Rattle.answer.specs.declared.Answer.the-variants.{Pass};
+ghost use Rattle.tables.specs.Trailer.{tablesOf};
+ghost use Rattle.graph.specs.Judge.{judgeIn};
+ghost use Rattle.layout.specs.Layout.{Within};
+ghost use Rattle.sheet.specs.Write.{blanked};
+ghost use Rattle.rules.specs.Sheet.{shapeOf};
+ghost use Rattle.sweep.specs.Ready.{Ready};
+ghost use Rattle.work.specs.Swept.{Settled};
+ghost use Rattle.work.specs.Meaning.{WorksOut};
+
+// The sheet is made blank and swept, forwards and backwards in turn, until a sweep writes nothing.
+fn settle(f: &[u8], t: Tables, x: Shape, s: &mut [u8])
+    requires { ⌜ Ready (now f) t x (now s) ⌝ }
+    ensures { λ _. ⌜ Settled (now (f .entry)) t x (blanked (now (s .entry))) (now (s .exit)) ⌝ }
+{
+    sheet::blank(s);
+    let mut backwards = false;
+    while sweep::once(f, t, x, s, backwards) {
+        backwards = !backwards;
+    }
+}
+
+// The sheet of a file that passes.
+fn of_judged(f: &[u8], t: Tables, x: Shape, s: &mut [u8]) -> Answer
+    requires { ⌜ (judgeIn (now f) t ≡ Pass) × (t ≡ tablesOf (now f)) × Within x × (x ≡ shapeOf t) ⌝ }
+    ensures { λ r. ⌜ WorksOut (now (f .entry)) (now (s .entry)) (now (s .exit)) r ⌝ }
+{
+    if s.len() != layout::sheet_bytes(x) {
+        return Answer::BadSheet;
+    }
+    settle(f, t, x, s);
+    permit::verdict(f, t, x, s)
+}
+
+// The graph file f is judged; if it passes, the sheet is written. Else the sheet is left as it was.
+pub fn work_out(f: &[u8], s: &mut [u8]) -> Answer
+    ensures { λ r. ⌜ WorksOut (now (f .entry)) (now (s .entry)) (now (s .exit)) r ⌝ }
+{
+    let a = graph::judge(f);
+    if answer::number(a) == 0 {
+        let t = tables::read(f);
+        return of_judged(f, t, permit::shape(t), s);
+    }
+    a
+}
