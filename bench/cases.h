@@ -1,0 +1,16 @@
+/* The graphs that speed is measured on. */
+#ifndef BENCH_CASES_H
+#define BENCH_CASES_H
+
+#include "draft.h"
+
+struct bench_case {
+    const char *name;
+    void (*build)(struct draft *d);
+};
+
+enum { BENCH_CASES = 10 };
+
+extern const struct bench_case bench_cases[BENCH_CASES];
+
+#endif

@@ -1,0 +1,16 @@
+-- No second number, and no second content of the sheet, fits.
+use Prim.Native.Nat.{ℕ}
+use mathlib.Core.Path.{_≡_, sym, ap, _∙_}
+use mathlib.Core.List.{List}
+use Rattle.answer.specs.Number.{packedOf}
+use Rattle.permit.proofs.Meaning as check
+use Rattle.work.proofs.Only as work
+use Rattle.loader.specs.Reply.{WorkedOut, Checked}
+
+pub one-reply : {f s r q : List ℕ} {n m : ℕ} → WorkedOut f s r n → WorkedOut f s q m → (n ≡ m) × (r ≡ q)
+one-reply {f} {s} {r} {q} a b =
+    let same = work.only f s r q (a .works) (b .works) in
+    (a .packed ∙ ap packedOf (same .0) ∙ sym (b .packed), same .1)
+
+pub one-answer : {f s : List ℕ} {n m : ℕ} → Checked f s n → Checked f s m → n ≡ m
+one-answer {f} {s} a b = a .packed ∙ ap packedOf (check.only f s (a .checks) ∙ sym (check.only f s (b .checks))) ∙ sym (b .packed)

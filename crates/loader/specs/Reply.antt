@@ -1,0 +1,20 @@
+-- The packed number that the loader gets back says the answer.
+use Prim.Native.Nat.{ℕ}
+use mathlib.Core.Path.{_≡_}
+use mathlib.Core.List.{List}
+use Rattle.answer.specs.declared.Answer.{Answer}
+use Rattle.answer.specs.Number.{packedOf}
+use Rattle.permit.specs.Meaning.{Checks}
+use Rattle.work.specs.Meaning.{WorksOut}
+
+-- of work out: s is the lent sheet before and r after
+pub record WorkedOut (f s r : List ℕ) (n : ℕ) : Type 0 where
+  pub answer : Answer
+  pub works : WorksOut f s r answer
+  pub packed : n ≡ packedOf answer
+
+-- of check
+pub record Checked (f s : List ℕ) (n : ℕ) : Type 0 where
+  pub answer : Answer
+  pub checks : Checks f s answer
+  pub packed : n ≡ packedOf answer

@@ -1,0 +1,22 @@
+// The operations that the terminal's loader calls from C. A lent slice is a pointer and then a length.
+ghost use mathlib.Core.Path.{_≡_};
+ghost use Rattle.answer.specs.Number.{packedOf};
+ghost use Rattle.permit.specs.Check.{checkOf};
+ghost use Rattle.loader.specs.Reply.{Checked, WorkedOut};
+
+// Work out: the graph file is only read, the sheet is written after the verdicts 0 and 13.
+#[no_mangle]
+pub extern "C" fn snellair_work_out(f: &[u8], s: &mut [u8]) -> u64
+    ensures { λ r. ⌜ WorkedOut (now (f .entry)) (now (s .entry)) (now (s .exit)) r ⌝ }
+{
+    answer::packed(work::work_out(f, s))
+}
+
+// Check: both are only read.
+#[no_mangle]
+pub extern "C" fn snellair_check(f: &[u8], s: &[u8]) -> u64
+    ensures equals { λ r. ⌜ r ≡ packedOf (checkOf (now (f .entry)) (now (s .entry))) ⌝ }
+    ensures means { λ r. ⌜ Checked (now (f .entry)) (now (s .entry)) r ⌝ }
+{
+    answer::packed(permit::check(f, s))
+}

@@ -1,0 +1,75 @@
+/* Snellair: whether an add-on's permission graph ever runs out of permits.
+ *
+ * Two operations over bytes that the caller lends. Neither allocates, keeps
+ * anything, or needs anything tested first: every content and every length
+ * gets an answer. Link target/staticlib/libloader.a.
+ *
+ * A pointer points to as many bytes as the length after it says, and is not
+ * NULL, also where that is 0. The sheet that work out writes does not overlap
+ * the graph. docs/FORMAT.md has the layout of both. */
+#ifndef SNELLAIR_H
+#define SNELLAIR_H
+
+#include <stddef.h>
+#include <stdint.h>
+
+#ifdef __cplusplus
+extern "C" {
+#endif
+
+/* Works out the permission sheet of a graph. After the verdicts SNELLAIR_PASS
+ * and SNELLAIR_OVERDRAWN all of the sheet is written; after a refusal (1 to
+ * 10) it is byte for byte as it was. */
+uint64_t snellair_work_out(const uint8_t *graph, size_t graph_len,
+                           uint8_t *sheet, size_t sheet_len);
+
+/* Checks a sheet, whoever made it, against a graph. Both are only read. A
+ * graph for which this answers SNELLAIR_PASS has no run that overdraws. */
+uint64_t snellair_check(const uint8_t *graph, size_t graph_len,
+                        const uint8_t *sheet, size_t sheet_len);
+
+/* The parts of an answer. Type and line are 0 in this release. */
+#define SNELLAIR_NUMBER(answer) ((unsigned)((answer) & 0xFFu))
+#define SNELLAIR_TYPE(answer) ((unsigned)((answer) >> 8 & 0xFFu))
+#define SNELLAIR_PLACE(answer) ((unsigned long)((answer) >> 16 & 0xFFFFFFu))
+#define SNELLAIR_LINE(answer) ((unsigned long)((answer) >> 40 & 0xFFFFFFu))
+
+/* The numbers, and what the place tells. 0 and 13 are verdicts, the others
+ * refusals; 11 and 12 come from check only. */
+enum snellair_number {
+    SNELLAIR_PASS = 0,         /* 0 */
+    SNELLAIR_TOO_SHORT = 1,    /* 0: fewer than 14 bytes */
+    SNELLAIR_BAD_COUNT = 2,    /* which count of the trailer, 0 to 5 */
+    SNELLAIR_BAD_LENGTH = 3,   /* 0: distance or file length */
+    SNELLAIR_BAD_ENTRY = 4,    /* row of the methods */
+    SNELLAIR_BAD_NODE = 5,     /* row of the nodes */
+    SNELLAIR_BAD_FLOW = 6,     /* row of the flow */
+    SNELLAIR_BAD_CALL = 7,     /* row of the calls */
+    SNELLAIR_BAD_CATCH = 8,    /* row of the catches */
+    SNELLAIR_BAD_OPENING = 9,  /* row of the opening stock */
+    SNELLAIR_BAD_SHEET = 10,   /* 0: the sheet's length */
+    SNELLAIR_BAD_BLOCK = 11,   /* first word of the lowest ill-formed block */
+    SNELLAIR_BROKEN_RULE = 12, /* lowest sheet rule that is broken, 1 to 10 */
+    SNELLAIR_OVERDRAWN = 13    /* lowest node whose draw is not covered */
+};
+
+/* The limits: most methods, nodes and types; the longest graph file and the
+ * longest sheet, in bytes. */
+#define SNELLAIR_MOST_METHODS 64u
+#define SNELLAIR_MOST_NODES 512u
+#define SNELLAIR_MOST_TYPES 6u
+#define SNELLAIR_LONGEST_GRAPH 12454u
+#define SNELLAIR_LONGEST_SHEET \
+    SNELLAIR_SHEET_BYTES(SNELLAIR_MOST_METHODS, SNELLAIR_MOST_NODES, \
+                         SNELLAIR_MOST_TYPES)
+
+/* The bytes of the sheet of a graph with so many methods, nodes and types:
+ * the first, second and sixth count of its trailer. */
+#define SNELLAIR_SHEET_BYTES(methods, nodes, types) \
+    (2u * ((methods) * (10u + 38u * (types)) + (nodes) * (1u + 4u * (types))))
+
+#ifdef __cplusplus
+}
+#endif
+
+#endif

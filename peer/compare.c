@@ -1,0 +1,169 @@
+/* Compares Snellair with the peer on generated cases: packed answers and all
+ * bytes lent. Takes a seed and a number of cases; ends with status 1 at the
+ * first difference. */
+#include "generate.h"
+#include "peer.h"
+#include "snellair.h"
+
+#include <inttypes.h>
+#include <stdio.h>
+#include <stdlib.h>
+#include <string.h>
+
+enum { MARGIN = 64, ROOM = MOST_SHEET_BYTES + MOST_ADDED + 2 * MARGIN };
+
+/* The sheets stand between margins that nobody may write. */
+struct one_case {
+    uint64_t seed, number;
+    struct draft draft;
+    size_t graph_len, sheet_len;
+    uint8_t graph[MOST_GRAPH_BYTES + MOST_ADDED];
+    uint8_t graph_before[MOST_GRAPH_BYTES + MOST_ADDED];
+    uint8_t ours[ROOM], theirs[ROOM];
+};
+
+/* How often each answer came. */
+struct tally {
+    unsigned long work_out[14], check[14];
+};
+
+/* Both sides are lent the same bytes. */
+static void lend(struct one_case *c, size_t sheet_len)
+{
+    c->sheet_len = sheet_len;
+    memcpy(c->theirs, c->ours, sheet_len + 2 * MARGIN);
+}
+
+static void print_difference(const struct one_case *c, const char *operation,
+                             uint64_t ours, uint64_t theirs)
+{
+    printf("seed %" PRIu64 " case %" PRIu64 ", %s: ", c->seed, c->number,
+           operation);
+    printf("snellair %" PRIu64 " at %" PRIu64 ", peer %" PRIu64 " at %" PRIu64
+           "\n", theirs & 0xFFFF, theirs >> 16, ours & 0xFFFF, ours >> 16);
+    for (size_t i = 0; i < c->sheet_len + 2 * MARGIN; i++)
+        if (c->ours[i] != c->theirs[i]) {
+            printf("first byte that differs, from the sheet's start: %ld\n",
+                   (long)i - MARGIN);
+            return;
+        }
+}
+
+/* Whether answers, sheets with margins, and the graph are as they should. */
+static bool agree(const struct one_case *c, const char *operation,
+                  uint64_t ours, uint64_t theirs)
+{
+    if (ours == theirs
+        && memcmp(c->ours, c->theirs, c->sheet_len + 2 * MARGIN) == 0
+        && memcmp(c->graph, c->graph_before, c->graph_len) == 0)
+        return true;
+    print_difference(c, operation, ours, theirs);
+    return false;
+}
+
+static bool compare_work_out(struct one_case *c, size_t sheet_len,
+                             struct tally *tally)
+{
+    lend(c, sheet_len);
+    uint64_t ours = peer_work_out(c->graph, c->graph_len, c->ours + MARGIN,
+                                  sheet_len);
+    uint64_t theirs = snellair_work_out(c->graph, c->graph_len,
+                                        c->theirs + MARGIN, sheet_len);
+    tally->work_out[ours & 0xFF]++;
+    return agree(c, "work out", ours, theirs);
+}
+
+static bool compare_check(struct one_case *c, size_t sheet_len,
+                          struct tally *tally)
+{
+    lend(c, sheet_len);
+    uint64_t ours = peer_check(c->graph, c->graph_len, c->ours + MARGIN,
+                               sheet_len);
+    uint64_t theirs = snellair_check(c->graph, c->graph_len,
+                                     c->theirs + MARGIN, sheet_len);
+    tally->check[ours & 0xFF]++;
+    return agree(c, "check", ours, theirs);
+}
+
+/* One graph in 64 of limit size, one file in 4 damaged. */
+static void make_graph(struct random *r, struct one_case *c)
+{
+    static const struct sizes small = {6, 30, 6, 255, 255};
+    if (random_below(r, 64) == 0)
+        generate_limit_graph(r, &c->draft);
+    else
+        generate_graph(r, &small, &c->draft);
+    c->graph_len = draft_write(&c->draft, c->graph);
+    if (random_below(r, 4) == 0)
+        c->graph_len = generate_damage(r, &c->draft, c->graph, c->graph_len);
+    memcpy(c->graph_before, c->graph, c->graph_len);
+}
+
+/* Worked out for another opening stock, so the sheet may obey and be too low,
+ * or break rule 1. */
+static void work_out_for_other_opening(struct random *r, struct one_case *c)
+{
+    struct draft other = c->draft;
+    uint8_t graph[MOST_GRAPH_BYTES];
+    unsigned type = random_below(r, other.types);
+    other.opening_count[type] = (uint16_t)random_below(r, 256);
+    other.opening_rights[type] &= (uint16_t)random_below(r, 0x10000);
+    size_t length = draft_write(&other, graph);
+    peer_work_out(graph, length, c->ours + MARGIN,
+                  sheet_bytes(draft_shape(&other)));
+}
+
+static bool compare_case(struct one_case *c, struct tally *tally)
+{
+    struct random r = random_of(c->seed, c->number);
+    uint8_t worked[MOST_SHEET_BYTES];
+    make_graph(&r, c);
+    struct shape s = draft_shape(&c->draft);
+    size_t right = sheet_bytes(s);
+    random_fill(&r, c->ours, right + MOST_ADDED + 2 * MARGIN);
+    if (!compare_work_out(c, generate_wrong_length(&r, right), tally)
+        || !compare_work_out(c, right, tally))
+        return false;
+    memcpy(worked, c->ours + MARGIN, right);
+    for (unsigned i = 0; i < 2 * SHEET_KINDS; i++) {
+        size_t length = generate_sheet(&r, i % SHEET_KINDS, s, worked,
+                                       c->ours + MARGIN);
+        if (!compare_check(c, length, tally))
+            return false;
+    }
+    work_out_for_other_opening(&r, c);
+    return compare_check(c, right, tally);
+}
+
+static void print_tally(const char *operation, const unsigned long times[14])
+{
+    unsigned long all = 0;
+    for (unsigned number = 0; number <= 13; number++)
+        all += times[number];
+    printf("%s, %lu times, by answer:", operation, all);
+    for (unsigned number = 0; number <= 13; number++)
+        printf(" %u:%lu", number, times[number]);
+    printf("\n");
+}
+
+int main(int argc, char **argv)
+{
+    static struct one_case c;
+    struct tally tally = {{0}, {0}};
+    if (argc != 3) {
+        fprintf(stderr, "usage: compare SEED CASES\n");
+        return 2;
+    }
+    c.seed = strtoull(argv[1], NULL, 10);
+    uint64_t cases = strtoull(argv[2], NULL, 10);
+    for (c.number = 0; c.number < cases; c.number++)
+        if (!compare_case(&c, &tally)) {
+            printf("%" PRIu64 " cases before it without a difference\n",
+                   c.number);
+            return 1;
+        }
+    print_tally("work out", tally.work_out);
+    print_tally("check", tally.check);
+    printf("%" PRIu64 " cases, no difference\n", cases);
+    return 0;
+}

@@ -1,0 +1,57 @@
+/* A graph before it is written as a file. Rows are kept sorted and single. */
+#ifndef PEER_DRAFT_H
+#define PEER_DRAFT_H
+
+#include "format.h"
+#include "sheet.h"
+
+#include <stdbool.h>
+
+struct draft_node {
+    uint8_t method, kind, number, count;
+    uint16_t rights;
+};
+
+/* Rows of flow, calls or catches; a field that a table lacks is 0. */
+struct draft_rows {
+    unsigned count, most;
+    uint16_t row[MOST_FLOW][3];
+};
+
+struct draft {
+    unsigned methods, nodes, types;
+    uint16_t entry[MOST_METHODS];
+    struct draft_node node[MOST_NODES];
+    struct draft_rows flow, calls, catches;
+    uint16_t opening_rights[MOST_TYPES], opening_count[MOST_TYPES];
+};
+
+/* No methods, nodes or rows; opening stocks of 0. */
+void draft_start(struct draft *d, unsigned types);
+
+/* Each answers the number of what it adds. A method's first node is its entry
+ * unless set otherwise. */
+unsigned draft_method(struct draft *d);
+unsigned draft_node(struct draft *d, unsigned method, enum kind kind);
+unsigned draft_grant(struct draft *d, unsigned method, unsigned type,
+                     unsigned count, unsigned rights);
+unsigned draft_draw(struct draft *d, unsigned method, unsigned type,
+                    unsigned rights);
+unsigned draft_call(struct draft *d, unsigned method, unsigned repeats);
+unsigned draft_throw(struct draft *d, unsigned method, unsigned exception);
+
+/* Each answers whether the row is new and the table had room for it. */
+bool draft_flow(struct draft *d, unsigned from, unsigned to);
+bool draft_callee(struct draft *d, unsigned node, unsigned method);
+bool draft_catch(struct draft *d, unsigned from, unsigned exception,
+                 unsigned to);
+
+struct shape draft_shape(const struct draft *d);
+
+/* Writes the file, at most MOST_GRAPH_BYTES, and answers its length. */
+size_t draft_write(const struct draft *d, uint8_t *graph);
+
+/* Document 01's file A with these in place of grant 2 and 2 repeats. */
+void draft_file_a(struct draft *d, unsigned granted, unsigned repeats);
+
+#endif

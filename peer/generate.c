@@ -1,0 +1,474 @@
+#include "generate.h"
+
+#include <string.h>
+
+/* ---- Random numbers: splitmix64 ---- */
+
+static uint64_t random_bits(struct random *r)
+{
+    uint64_t z = r->state += 0x9E3779B97F4A7C15u;
+    z = (z ^ z >> 30) * 0xBF58476D1CE4E5B9u;
+    z = (z ^ z >> 27) * 0x94D049BB133111EBu;
+    return z ^ z >> 31;
+}
+
+struct random random_of(uint64_t seed, uint64_t number)
+{
+    struct random r = {seed};
+    r.state = random_bits(&r) + number;
+    r.state = random_bits(&r);
+    return r;
+}
+
+unsigned random_below(struct random *r, unsigned bound)
+{
+    return (unsigned)(random_bits(r) >> 32) % bound;
+}
+
+static bool one_in(struct random *r, unsigned n)
+{
+    return random_below(r, n) == 0;
+}
+
+void random_fill(struct random *r, uint8_t *bytes, size_t length)
+{
+    uint64_t bits = 0;
+    for (size_t i = 0; i < length; i++) {
+        bits = i % 8 == 0 ? random_bits(r) : bits >> 8;
+        bytes[i] = (uint8_t)(bits & 0xFF);
+    }
+}
+
+/* ---- Graphs ---- */
+
+static unsigned random_count(struct random *r, const struct sizes *most)
+{
+    switch (random_below(r, 6)) {
+    case 0:
+        return 0;
+    case 1:
+        return ENDLESS;
+    case 2:
+    case 3:
+        return 1 + random_below(r, 3);
+    default:
+        return random_below(r, most->count + 1);
+    }
+}
+
+/* Few rights are drawn and many granted, so that some draws are covered. */
+static unsigned random_rights(struct random *r, bool many)
+{
+    unsigned a = random_below(r, 0x10000), b = random_below(r, 0x10000);
+    switch (random_below(r, 4)) {
+    case 0:
+        return many ? 0xFFFF : 0;
+    case 1:
+        return many ? 0x0301 : 0x0101;
+    case 2:
+        return many ? a | b : a & b;
+    default:
+        return many ? a | b | 0x0F0F : a & b & 0x0F0F;
+    }
+}
+
+/* Mostly the same few, so that throws meet catch rows. */
+static unsigned random_exception(struct random *r)
+{
+    static const unsigned usual[3] = {0, 1, 7};
+    return one_in(r, 4) ? random_below(r, EXCEPTIONS)
+                        : usual[random_below(r, 3)];
+}
+
+static unsigned random_repeats(struct random *r, const struct sizes *most)
+{
+    switch (random_below(r, 4)) {
+    case 0:
+        return 1;
+    case 1: /* near 254, where a drop becomes endless */
+        return most->repeats - random_below(r, 3);
+    default:
+        return 1 + random_below(r, most->repeats);
+    }
+}
+
+static void add_node(struct random *r, const struct sizes *most,
+                     struct draft *d, unsigned method, bool goes_on)
+{
+    unsigned type = random_below(r, d->types);
+    switch (random_below(r, goes_on ? 12 : 14)) {
+    case 0:
+    case 1:
+        draft_node(d, method, PLAIN);
+        break;
+    case 2:
+    case 3:
+    case 4:
+        draft_grant(d, method, type, random_count(r, most),
+                    random_rights(r, true));
+        break;
+    case 5:
+    case 6:
+    case 7:
+    case 8:
+        draft_draw(d, method, type, random_rights(r, false));
+        break;
+    case 9:
+    case 10:
+    case 11:
+        draft_call(d, method, random_repeats(r, most));
+        break;
+    case 12:
+        draft_throw(d, method, random_exception(r));
+        break;
+    default:
+        draft_node(d, method, RETURN);
+    }
+}
+
+/* The next node of a method after this one, in a ring. */
+static unsigned next_node(const struct draft *d, unsigned method,
+                          unsigned after)
+{
+    do
+        after = (after + 1) % d->nodes;
+    while (d->node[after].method != method);
+    return after;
+}
+
+/* Any node of the same method. */
+static unsigned other_node(struct random *r, const struct draft *d,
+                           unsigned node)
+{
+    return next_node(d, d->node[node].method, random_below(r, d->nodes));
+}
+
+/* Mostly a later method, since recursion is frequent enough. */
+static unsigned other_method(struct random *r, const struct draft *d,
+                             unsigned method)
+{
+    unsigned later = d->methods - method - 1;
+    if (later > 0 && !one_in(r, 3))
+        return method + 1 + random_below(r, later);
+    return random_below(r, d->methods);
+}
+
+static void add_callee_and_catches(struct random *r, struct draft *d,
+                                   unsigned node)
+{
+    unsigned callees = one_in(r, 8) ? 0 : 1 + random_below(r, 6) / 3;
+    while (callees-- > 0)
+        draft_callee(d, node, other_method(r, d, d->node[node].method));
+    for (unsigned catches = random_below(r, 3); catches > 0; catches--)
+        draft_catch(d, node, random_exception(r), other_node(r, d, node));
+}
+
+static void add_rows(struct random *r, struct draft *d, unsigned node)
+{
+    unsigned kind = d->node[node].kind;
+    if (kind == RETURN)
+        return;
+    if (kind == THROW) {
+        for (unsigned catches = random_below(r, 3); catches > 0; catches--)
+            draft_catch(d, node, d->node[node].number, other_node(r, d, node));
+        return;
+    }
+    if (!one_in(r, 8))
+        draft_flow(d, node, next_node(d, d->node[node].method, node));
+    if (!one_in(r, 3))
+        draft_flow(d, node, other_node(r, d, node));
+    if (kind == CALL)
+        add_callee_and_catches(r, d, node);
+}
+
+/* Each method starts with a node that goes on and mostly ends in a return, or
+ * too little would be reached. */
+static void add_nodes(struct random *r, const struct sizes *exact,
+                      struct draft *d)
+{
+    unsigned ends = exact->nodes - exact->methods;
+    for (unsigned n = 0; n < exact->methods; n++)
+        add_node(r, exact, d, n, true);
+    for (unsigned n = exact->methods; n < exact->nodes; n++)
+        if (n >= ends && !one_in(r, 4))
+            draft_node(d, n - ends, RETURN);
+        else
+            add_node(r, exact, d, random_below(r, d->methods), false);
+}
+
+/* With just these numbers of methods, nodes and types. */
+static void generate_exact(struct random *r, const struct sizes *exact,
+                           struct draft *d)
+{
+    draft_start(d, exact->types);
+    for (unsigned m = 0; m < exact->methods; m++)
+        draft_method(d);
+    add_nodes(r, exact, d);
+    for (unsigned m = 0; m < d->methods; m++)
+        if (one_in(r, 4))
+            d->entry[m] = (uint16_t)other_node(r, d, d->entry[m]);
+    for (unsigned n = 0; n < d->nodes; n++)
+        add_rows(r, d, n);
+    for (unsigned t = 0; t < d->types; t++) {
+        d->opening_rights[t] = (uint16_t)random_rights(r, true);
+        d->opening_count[t] = (uint16_t)random_count(r, exact);
+    }
+}
+
+void generate_graph(struct random *r, const struct sizes *most,
+                    struct draft *d)
+{
+    struct sizes exact = *most;
+    exact.methods = 1 + random_below(r, most->methods);
+    unsigned fewest = smaller(most->nodes,
+                              one_in(r, 8) ? exact.methods : 4 * exact.methods);
+    exact.nodes = fewest + random_below(r, most->nodes - fewest + 1);
+    exact.types = 1 + random_below(r, most->types);
+    generate_exact(r, &exact, d);
+}
+
+void generate_limit_graph(struct random *r, struct draft *d)
+{
+    static const struct sizes exact = {MOST_METHODS, MOST_NODES, MOST_TYPES,
+                                       255, 255};
+    generate_exact(r, &exact, d);
+    if (one_in(r, 2))
+        return;
+    while (d->flow.count < MOST_FLOW || d->calls.count < MOST_CALLS
+           || d->catches.count < MOST_CATCHES)
+        add_rows(r, d, random_below(r, d->nodes));
+}
+
+/* ---- Damage ---- */
+
+static void damage_trailer(struct random *r, uint8_t *trailer)
+{
+    static const unsigned outside[6] = {0, 65, 513, 1025, 7, 0xFFFF};
+    uint8_t *at = trailer + 2 * random_below(r, TABLES + 1);
+    switch (random_below(r, 3)) {
+    case 0:
+        write_word(at, outside[random_below(r, 6)]);
+        break;
+    case 1:
+        write_word(at, (read_word(at) + (one_in(r, 2) ? 1 : 0xFFFF)) & 0xFFFF);
+        break;
+    default: /* flow rows and call rows are of one length: the sum stays */
+        write_word(trailer + 2 * FLOW, read_word(trailer + 2 * FLOW) + 1);
+        write_word(trailer + 2 * CALLS,
+                   (read_word(trailer + 2 * CALLS) + 0xFFFF) & 0xFFFF);
+    }
+}
+
+/* Swaps two neighbouring rows, or makes the second equal to the first. */
+static void damage_order(struct random *r, const struct draft *d,
+                         uint8_t *graph)
+{
+    const unsigned counts[TABLES] = {d->methods, d->nodes, d->flow.count,
+                                     d->calls.count, d->catches.count,
+                                     d->types};
+    unsigned table = random_below(r, TABLES);
+    uint8_t first[6];
+    if (counts[table] < 2)
+        return;
+    uint8_t *at = graph;
+    for (unsigned t = 0; t < table; t++)
+        at += counts[t] * row_bytes[t];
+    at += random_below(r, counts[table] - 1) * row_bytes[table];
+    memcpy(first, at, row_bytes[table]);
+    if (one_in(r, 2))
+        memcpy(at, at + row_bytes[table], row_bytes[table]);
+    memcpy(at + row_bytes[table], first, row_bytes[table]);
+}
+
+/* Sets a byte of a node, or any word, to a number that may be just outside. */
+static void damage_field(struct random *r, const struct draft *d,
+                         uint8_t *graph, size_t length)
+{
+    const unsigned near[4] = {d->nodes, d->methods, d->types,
+                              random_below(r, 10)};
+    unsigned value = near[random_below(r, 4)];
+    if (one_in(r, 2))
+        graph[2 * d->methods + random_below(r, row_bytes[NODES] * d->nodes)] =
+            (uint8_t)(value & 0xFF);
+    else
+        write_word(graph + 2 * random_below(r, (unsigned)length / 2), value);
+}
+
+/* Another exception in one catch row, or no repeats in one call. */
+static void damage_rare_field(struct random *r, const struct draft *d,
+                              uint8_t *graph)
+{
+    unsigned node = random_below(r, d->nodes);
+    uint8_t *catches = graph + 2 * d->methods + row_bytes[NODES] * d->nodes
+                     + row_bytes[FLOW] * d->flow.count
+                     + row_bytes[CALLS] * d->calls.count;
+    if (d->catches.count > 0 && one_in(r, 2))
+        write_word(catches + 2
+                       + row_bytes[CATCHES] * random_below(r, d->catches.count),
+                   random_below(r, EXCEPTIONS + 1));
+    else if (d->node[node].kind == CALL)
+        graph[2 * d->methods + row_bytes[NODES] * node + 3] = 0;
+}
+
+size_t generate_damage(struct random *r, const struct draft *d, uint8_t *graph,
+                       size_t length)
+{
+    size_t added = 1 + random_below(r, MOST_ADDED);
+    switch (random_below(r, 10)) {
+    case 0:
+        return random_below(r, (unsigned)length);
+    case 1:
+        random_fill(r, graph + length, added);
+        return length + added;
+    case 2:
+        damage_trailer(r, graph + length - TRAILER_BYTES);
+        break;
+    case 3:
+        damage_order(r, d, graph);
+        break;
+    case 4:
+        graph[random_below(r, (unsigned)length)] ^=
+            (uint8_t)(1 << random_below(r, 8));
+        break;
+    case 5: /* two of them, for the order of the answers */
+        damage_field(r, d, graph, length);
+        damage_field(r, d, graph, length);
+        break;
+    case 6: /* the last opening count, just before the trailer */
+        write_word(graph + length - TRAILER_BYTES - 2,
+                   254 + random_below(r, 4));
+        break;
+    case 7:
+    case 8:
+        damage_rare_field(r, d, graph);
+        break;
+    default:
+        damage_field(r, d, graph, length);
+    }
+    return length;
+}
+
+/* ---- Sheets ---- */
+
+static void alter_word(struct random *r, uint8_t *sheet, size_t length)
+{
+    static const unsigned edges[7] = {0, 1, 2, 254, 255, 256, 257};
+    uint8_t *at = sheet + 2 * random_below(r, (unsigned)length / 2);
+    unsigned word = read_word(at);
+    switch (random_below(r, 4)) {
+    case 0:
+        word += 1;
+        break;
+    case 1:
+        word += 0xFFFF;
+        break;
+    case 2:
+        word = edges[random_below(r, 7)];
+        break;
+    default:
+        word = random_below(r, 0x10000);
+    }
+    write_word(at, word & 0xFFFF);
+}
+
+/* 254 is not used, and none is the smallest. */
+static unsigned next_smaller_drop(unsigned drop)
+{
+    if (drop == ENDLESS)
+        return 253;
+    return drop == 0 || drop == NO_DROP ? NO_DROP : drop - 1;
+}
+
+/* One step up or down in one part of a normal effect. */
+static struct effect nudge(struct random *r, struct effect e)
+{
+    unsigned bit = 1u << random_below(r, 16);
+    switch (random_below(r, 6)) {
+    case 0:
+        e.cap -= e.cap > 0 ? 1 : 0;
+        break;
+    case 1:
+        e.cap += e.cap < ENDLESS ? 1 : 0;
+        break;
+    case 2:
+        e.drop = e.drop == NO_DROP ? 0 : drop_of(e.drop + 1);
+        break;
+    case 3:
+        e.drop = next_smaller_drop(e.drop);
+        break;
+    case 4:
+        e.keep_max &= ~bit;
+        e.keep_in &= ~bit;
+        break;
+    default:
+        e.keep_in |= one_in(r, 2) ? bit & e.keep_max : 0;
+        e.keep_max |= bit;
+    }
+    if (e.cap == 0)
+        e.drop = NO_DROP;
+    return e;
+}
+
+static void alter_block(struct random *r, struct shape s, uint8_t *sheet)
+{
+    unsigned block = random_below(r, block_count(s));
+    unsigned type = random_below(r, s.types);
+    struct effects e;
+    if (!read_block(s, sheet, block, &e)) {
+        for (unsigned t = 0; t < s.types; t++)
+            e.of[t] = one_in(r, 2) ? lowest() : nothing_done();
+    } else if (one_in(r, 6)) {
+        memset(sheet + 2 * block_at(s, block), 0,
+               2 * (1 + (size_t)block_words(s, block)));
+        return;
+    } else {
+        e.of[type] = one_in(r, 6) ? lowest() : nudge(r, e.of[type]);
+    }
+    write_block(s, sheet, block, &e);
+}
+
+static void mark_all_lowest(struct shape s, uint8_t *sheet)
+{
+    struct effects e;
+    for (unsigned t = 0; t < s.types; t++)
+        e.of[t] = lowest();
+    for (unsigned block = 0; block < block_count(s); block++)
+        write_block(s, sheet, block, &e);
+}
+
+size_t generate_wrong_length(struct random *r, size_t length)
+{
+    return one_in(r, 2) ? random_below(r, (unsigned)length)
+                        : length + 1 + random_below(r, MOST_ADDED);
+}
+
+size_t generate_sheet(struct random *r, enum sheet_kind kind, struct shape s,
+                      const uint8_t *given, uint8_t *sheet)
+{
+    size_t length = sheet_bytes(s);
+    memcpy(sheet, given, length);
+    switch (kind) {
+    case WORD_ALTERED:
+        alter_word(r, sheet, length);
+        break;
+    case BLOCKS_ALTERED:
+        for (unsigned blocks = 1 + random_below(r, 3); blocks > 0; blocks--)
+            alter_block(r, s, sheet);
+        break;
+    case LOWEST:
+        mark_all_lowest(s, sheet);
+        break;
+    case BLANK:
+        memset(sheet, 0, length);
+        break;
+    case ANY_BYTES:
+        random_fill(r, sheet, length);
+        break;
+    case WRONG_LENGTH:
+        random_fill(r, sheet + length, MOST_ADDED);
+        return generate_wrong_length(r, length);
+    default:
+        break;
+    }
+    return length;
+}

@@ -1,0 +1,59 @@
+/* Graph files and sheets from a seed, the same on every machine. */
+#ifndef PEER_GENERATE_H
+#define PEER_GENERATE_H
+
+#include "draft.h"
+
+struct random {
+    uint64_t state;
+};
+
+/* The stream of one case, so that a case can be made again without those
+ * before it. */
+struct random random_of(uint64_t seed, uint64_t number);
+
+unsigned random_below(struct random *r, unsigned bound);
+
+void random_fill(struct random *r, uint8_t *bytes, size_t length);
+
+/* The most of each; repeats is at least 3, count is of finite grants. */
+struct sizes {
+    unsigned methods, nodes, types, repeats, count;
+};
+
+/* Any well-formed graph within these sizes. */
+void generate_graph(struct random *r, const struct sizes *most,
+                    struct draft *d);
+
+/* A graph with 64 methods, 512 nodes and 6 types, in half of the cases with
+ * full tables of flow, calls and catches. */
+void generate_limit_graph(struct random *r, struct draft *d);
+
+/* How many bytes a damaged file or a wrong sheet may have too many. */
+enum { MOST_ADDED = 16 };
+
+/* Damages the file written from a draft and answers its new length. It may
+ * stay well formed. */
+size_t generate_damage(struct random *r, const struct draft *d, uint8_t *graph,
+                       size_t length);
+
+enum sheet_kind {
+    AS_GIVEN,
+    WORD_ALTERED,
+    BLOCKS_ALTERED, /* into well-formed ones, lower or higher */
+    LOWEST,         /* everything marked with nothing left; obeys all rules */
+    BLANK,
+    ANY_BYTES,
+    WRONG_LENGTH,
+    SHEET_KINDS
+};
+
+/* Any other length than this one, shorter or up to MOST_ADDED longer. */
+size_t generate_wrong_length(struct random *r, size_t length);
+
+/* Makes a sheet of this kind from a well-formed one and answers its length,
+ * at most MOST_SHEET_BYTES + MOST_ADDED. */
+size_t generate_sheet(struct random *r, enum sheet_kind kind, struct shape s,
+                      const uint8_t *given, uint8_t *sheet);
+
+#endif

@@ -1,0 +1,21 @@
+/* An independent peer of Snellair: written from document 01, with the packed
+ * answer and the order of a block's words as in docs/FORMAT.md, and without a
+ * look at Snellair's code. Each operation answers number + 65,536 * place. */
+#ifndef PEER_H
+#define PEER_H
+
+#include <stddef.h>
+#include <stdint.h>
+
+/* Looks again only at what depends on a block that changed. */
+uint64_t peer_work_out(const uint8_t *graph, size_t graph_len,
+                       uint8_t *sheet, size_t sheet_len);
+
+/* The same by sweeps over all rules, for comparing speed. */
+uint64_t peer_work_out_sweeping(const uint8_t *graph, size_t graph_len,
+                                uint8_t *sheet, size_t sheet_len);
+
+uint64_t peer_check(const uint8_t *graph, size_t graph_len,
+                    const uint8_t *sheet, size_t sheet_len);
+
+#endif

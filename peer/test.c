@@ -1,0 +1,609 @@
+/* Tests the peer alone: effects against their meaning, document 01's figures,
+ * one engine against the other, check against work out, and the worked-out
+ * sheet against runs. Ends with status 1 at the first thing that fails. */
+#include "effect.h"
+#include "generate.h"
+#include "peer.h"
+#include "runs.h"
+
+#include <inttypes.h>
+#include <stdio.h>
+#include <stdlib.h>
+#include <string.h>
+
+enum { SEED = 2024, ROOM = MOST_SHEET_BYTES + MOST_ADDED };
+
+static const struct sizes tiny = {3, 10, 2, 3, 3};
+static const struct sizes small = {6, 30, 6, 255, 255};
+
+static void expect(bool holds, const char *what, uint64_t number)
+{
+    if (holds)
+        return;
+    printf("failed: %s (%" PRIu64 ")\n", what, number);
+    exit(1);
+}
+
+static uint64_t packed(unsigned number, unsigned place)
+{
+    return number + ((uint64_t)place << 16);
+}
+
+static bool is_verdict(uint64_t answer)
+{
+    return answer == 0 || (answer & 0xFF) == 13;
+}
+
+/* ---- Effects ---- */
+
+static bool same_effect(struct effect a, struct effect b)
+{
+    return a.keep_in == b.keep_in && a.keep_max == b.keep_max
+        && a.cap == b.cap && a.drop == b.drop;
+}
+
+/* An effect applied, straight from its meaning in document 01. */
+static unsigned count_left(struct effect e, unsigned count)
+{
+    unsigned rest = count <= e.drop ? 0 : count - e.drop;
+    if (count == ENDLESS)
+        rest = ENDLESS;
+    return e.drop == NO_DROP || e.cap < rest ? e.cap : rest;
+}
+
+static unsigned rights_left(struct effect e, unsigned rights)
+{
+    return (rights | e.keep_in) & e.keep_max;
+}
+
+static struct effect random_effect(struct random *r)
+{
+    static const unsigned edges[10] = {0,   1,   2,   3,   127,
+                                       128, 252, 253, 255, 256};
+    struct effect e;
+    e.keep_max = random_below(r, 0x10000);
+    e.keep_in = random_below(r, 0x10000) & e.keep_max;
+    e.cap = random_below(r, 2) ? random_below(r, 256)
+                               : edges[random_below(r, 9)];
+    e.drop = random_below(r, 2) ? drop_of(random_below(r, 256))
+                                : edges[random_below(r, 10)];
+    if (e.cap == 0)
+        e.drop = NO_DROP;
+    return e;
+}
+
+static void test_pair(struct effect a, struct effect b, unsigned rights)
+{
+    struct effect sequence = then(a, b), lower = both(a, b);
+    bool below = (a.keep_in & ~b.keep_in) == 0
+              && (a.keep_max & ~b.keep_max) == 0;
+    expect(is_normal(sequence) && is_normal(lower), "normal form", 0);
+    for (unsigned count = 0; count <= 255; count++) {
+        unsigned x = count_left(a, count), y = count_left(b, count);
+        expect(count_left(sequence, count) == count_left(b, x), "then", count);
+        expect(count_left(lower, count) == smaller(x, y), "both", count);
+        below = below && x <= y;
+        /* a stock is kept as the grant of it */
+        struct effect stock = then(grant(rights, count), a);
+        expect(same_effect(stock, grant(rights_left(a, rights), x)),
+               "apply", count);
+    }
+    expect(rights_left(sequence, rights)
+               == rights_left(b, rights_left(a, rights)), "then, rights", 0);
+    expect(rights_left(lower, rights)
+               == (rights_left(a, rights) & rights_left(b, rights)),
+           "both, rights", 0);
+    expect(at_most(a, b) == below, "at most", 0);
+}
+
+/* Every normal cap and drop, 1 to 255 times, against the repeated "then", and
+ * that it falls. The rights are settled bit by bit: absent, kept, given. */
+static void test_taken(void)
+{
+    for (unsigned cap = 0; cap <= 255; cap++)
+        for (unsigned drop = 0; drop <= NO_DROP; drop++) {
+            struct effect e = {0x0001, 0x0011, cap, drop};
+            struct effect power = e;
+            for (unsigned k = 1; k <= 255 && is_normal(e); k++) {
+                expect(same_effect(taken(e, k), power), "taken", k);
+                expect(at_most(then(power, e), power), "falls", k);
+                power = then(power, e);
+            }
+        }
+}
+
+static void test_effects(void)
+{
+    const unsigned pairs = 200000;
+    struct random r = random_of(SEED, 0);
+    for (unsigned i = 0; i < pairs; i++) {
+        struct effect a = random_effect(&r), b = random_effect(&r);
+        test_pair(a, b, random_below(&r, 0x10000));
+        test_pair(both(a, b), a, random_below(&r, 0x10000));
+    }
+    test_taken();
+    printf("effects: %u pairs on every count, taken 1 to 255 times\n",
+           2 * pairs);
+}
+
+static struct effect counts(unsigned cap, unsigned drop)
+{
+    return (struct effect){0, ALL_RIGHTS, cap, drop};
+}
+
+static void test_k4_to_k8(void)
+{
+    struct effect k6 = both(grant(0x0101, 3), nothing_done());
+    struct effect k8 = then(grant(0x0101, 2), then(draw(), draw()));
+    expect(then(counts(255, 200), counts(255, 100)).drop == 255, "K4", 0);
+    expect(then(counts(255, 253), counts(255, 1)).drop == 255, "K5", 0);
+    expect(same_effect(k6, (struct effect){0, 0x0101, 3, 0}), "K6", 0);
+    expect(at_most(counts(0, NO_DROP), counts(5, 9)), "K7", 0);
+    expect(!at_most(counts(5, 9), counts(0, NO_DROP)), "K7 reversed", 0);
+    expect(k8.cap == 0 && k8.drop == NO_DROP, "K8", 0);
+}
+
+/* ---- Work out and check on one file ---- */
+
+/* Of the exact length, so that a sanitizer sees a step outside. */
+static uint8_t *copy_of(const uint8_t *bytes, size_t length)
+{
+    uint8_t *copy = malloc(length > 0 ? length : 1);
+    expect(copy != NULL, "memory", length);
+    memcpy(copy, bytes, length);
+    return copy;
+}
+
+static uint64_t check(const uint8_t *graph, size_t length,
+                      const uint8_t *sheet, size_t sheet_len)
+{
+    uint8_t *lent_graph = copy_of(graph, length);
+    uint8_t *lent_sheet = copy_of(sheet, sheet_len);
+    uint64_t answer = peer_check(lent_graph, length, lent_sheet, sheet_len);
+    free(lent_graph);
+    free(lent_sheet);
+    return answer;
+}
+
+/* Works out by both engines, which must agree, and has check look at it. */
+static uint64_t work_out(const uint8_t *graph, size_t length, uint8_t *sheet,
+                         size_t sheet_len)
+{
+    uint8_t *lent = copy_of(graph, length);
+    uint8_t *swept = copy_of(sheet, sheet_len);
+    uint8_t *listed = copy_of(sheet, sheet_len);
+    uint64_t answer = peer_work_out(lent, length, listed, sheet_len);
+    expect(peer_work_out_sweeping(lent, length, swept, sheet_len) == answer,
+           "both engines answer the same", answer);
+    expect(memcmp(listed, swept, sheet_len) == 0, "both write the same", 0);
+    expect(check(graph, length, listed, sheet_len) == answer,
+           "check answers the same", answer);
+    if (!is_verdict(answer))
+        expect(memcmp(listed, sheet, sheet_len) == 0, "untouched", answer);
+    memcpy(sheet, listed, sheet_len);
+    free(lent);
+    free(swept);
+    free(listed);
+    return answer;
+}
+
+static uint64_t work_out_draft(const struct draft *d, uint8_t *sheet)
+{
+    uint8_t graph[MOST_GRAPH_BYTES];
+    size_t length = draft_write(d, graph);
+    size_t sheet_len = sheet_bytes(draft_shape(d));
+    memset(sheet, 0xA5, sheet_len);
+    return work_out(graph, length, sheet, sheet_len);
+}
+
+/* The stock of a reached node; false if it is not reached. */
+static bool stock_at(const struct draft *d, const uint8_t *sheet,
+                     unsigned node, struct effects *stock)
+{
+    struct shape s = draft_shape(d);
+    struct effects e;
+    if (!read_block(s, sheet, stock_block(d->node[node].method), stock)
+        || !read_block(s, sheet, node_block(s, node), &e))
+        return false;
+    for (unsigned t = 0; t < s.types; t++)
+        stock->of[t] = then(stock->of[t], e.of[t]);
+    return true;
+}
+
+/* ---- Document 01's figures ---- */
+
+static void test_file_a(struct draft *d, uint8_t *sheet)
+{
+    static const uint8_t written[68] = {
+        0, 0, 3, 0,
+        0, 1, 0, 2, 1, 1, 0, 3, 0, 2, 0, 0, 0, 4, 0, 0, 0, 0,
+        1, 2, 0, 0, 1, 1, 1, 4, 0, 0, 0, 0,
+        0, 0, 1, 0, 1, 0, 2, 0, 3, 0, 4, 0,
+        1, 0, 1, 0,
+        0, 0, 0, 0,
+        2, 0, 5, 0, 3, 0, 1, 0, 0, 0, 1, 0, 0x36, 0};
+    static const unsigned listed[5][2] = {
+        {0x0000, 0}, {0x0101, 2}, {0x0101, 0}, {0x0101, 1}, {0x0101, 0}};
+    uint8_t graph[MOST_GRAPH_BYTES];
+    struct effects stock;
+    draft_file_a(d, 2, 2);
+    expect(draft_write(d, graph) == sizeof written, "length of file A", 0);
+    expect(memcmp(graph, written, sizeof written) == 0, "file A", 0);
+    expect(work_out_draft(d, sheet) == 0, "K1", 0);
+    for (unsigned n = 0; n < 5; n++) {
+        expect(stock_at(d, sheet, n, &stock), "listed", n);
+        expect(stock.of[0].keep_max == listed[n][0]
+                   && stock.of[0].cap == listed[n][1], "as listed", n);
+    }
+    draft_file_a(d, 2, 3);
+    expect(work_out_draft(d, sheet) == packed(13, 3), "K2", 0);
+    draft_file_a(d, 255, 255);
+    expect(work_out_draft(d, sheet) == 0, "K3", 0);
+}
+
+/* One method that grants and then draws, the draw without a flow row. */
+static uint64_t grant_then_draw(struct draft *d, uint8_t *sheet, unsigned count,
+                                unsigned rights, unsigned drawn)
+{
+    draft_start(d, 1);
+    unsigned m = draft_method(d);
+    unsigned first = draft_grant(d, m, 0, count, rights);
+    draft_flow(d, first, draft_draw(d, m, 0, drawn));
+    return work_out_draft(d, sheet);
+}
+
+static void test_k9_to_k11(struct draft *d, uint8_t *sheet)
+{
+    struct effects stock;
+    expect(grant_then_draw(d, sheet, 0, 0x0101, 0x0101) == packed(13, 1),
+           "K9", 0);
+    expect(grant_then_draw(d, sheet, 9, 0x0101, 0x0301) == packed(13, 1),
+           "K10", 0);
+    expect(grant_then_draw(d, sheet, 1, 0x0301, 0x0101) == 0, "covered", 0);
+    draft_start(d, 1);
+    unsigned main = draft_method(d), endless = draft_method(d);
+    unsigned call = draft_call(d, main, 1);
+    unsigned drawn = draft_draw(d, main, 0, 0x0101);
+    unsigned loop = draft_node(d, endless, PLAIN);
+    draft_flow(d, call, drawn);
+    draft_flow(d, loop, loop);
+    draft_callee(d, call, endless);
+    expect(work_out_draft(d, sheet) == 0, "K11", 0);
+    expect(!stock_at(d, sheet, drawn, &stock), "K11 not reached", 0);
+}
+
+static void test_refusals(struct draft *d, uint8_t *sheet)
+{
+    uint8_t graph[MOST_GRAPH_BYTES];
+    draft_file_a(d, 2, 2);
+    size_t length = draft_write(d, graph), len = sheet_bytes(draft_shape(d));
+    uint8_t *count = graph + length - TRAILER_BYTES + 2 * NODES;
+    expect(work_out(graph, 13, sheet, len) == packed(1, 0), "13 bytes", 0);
+    write_word(count, 0);
+    expect(work_out(graph, length, sheet, len) == packed(2, 1), "N = 0", 0);
+    write_word(count, 513);
+    expect(work_out(graph, length, sheet, len) == packed(2, 1), "N = 513", 0);
+    write_word(count, 5);
+    expect(work_out(graph, length, sheet, len + 2) == packed(10, 0),
+           "sheet too long", 0);
+    for (unsigned exception = 7; exception <= 8; exception++) {
+        draft_start(d, 1);
+        draft_throw(d, draft_method(d), exception);
+        expect(work_out_draft(d, sheet) == (exception == 8 ? 5 : 0),
+               "exception", exception);
+    }
+}
+
+/* What is put at one byte of a file or one word of a sheet, and what is then
+ * answered. */
+struct alteration {
+    unsigned at, value, number, place;
+};
+
+static void test_places_of_refusals(struct draft *d, uint8_t *sheet)
+{
+    static const struct alteration altered[] = {
+        {64, 7, 2, 5},    /* seven types */
+        {66, 0x37, 3, 0}, /* distance */
+        {2, 0, 4, 1},     /* entry in another method */
+        {2, 5, 4, 1},     /* entry N */
+        {29, 6, 5, 4},    /* kind */
+        {13, 0, 5, 1},    /* no repeats */
+        {20, 1, 5, 2},    /* return with rights */
+        {44, 1, 6, 2},    /* flow into another method */
+        {38, 2, 6, 1},    /* flow from a return */
+        {46, 0, 7, 0},    /* calls from a grant */
+        {48, 2, 7, 0},    /* method M called */
+        {53, 1, 9, 0}};   /* opening count 256 */
+    uint8_t graph[MOST_GRAPH_BYTES];
+    draft_file_a(d, 2, 2);
+    size_t length = draft_write(d, graph), len = sheet_bytes(draft_shape(d));
+    for (unsigned i = 0; i < sizeof altered / sizeof altered[0]; i++) {
+        const struct alteration *a = &altered[i];
+        uint8_t before = graph[a->at];
+        graph[a->at] = (uint8_t)a->value;
+        expect(work_out(graph, length, sheet, len)
+                   == packed(a->number, a->place), "refused", i);
+        graph[a->at] = before;
+    }
+    memcpy(graph + 38, graph + 34, row_bytes[FLOW]);
+    expect(work_out(graph, length, sheet, len) == packed(6, 1),
+           "flow row twice", 0);
+    draft_catch(d, 1, 7, 2);
+    expect(work_out_draft(d, sheet) == 0, "catch row for 7", 0);
+    draft_catch(d, 1, 8, 2);
+    expect(work_out_draft(d, sheet) == packed(8, 1), "catch row for 8", 0);
+    draft_start(d, 1);
+    unsigned thrown = draft_throw(d, draft_method(d), 3);
+    draft_catch(d, thrown, 3, thrown);
+    expect(work_out_draft(d, sheet) == 0, "the throw's exception", 0);
+    draft_catch(d, thrown, 4, thrown);
+    expect(work_out_draft(d, sheet) == packed(8, 1), "another exception", 0);
+}
+
+/* In file A's sheet node n's block starts at word 96 + 5n, method 1's at 48. */
+static void test_places_of_check(struct draft *d, uint8_t *sheet)
+{
+    static const struct alteration altered[] = {
+        {106, 2, 11, 106},   /* mark 2 */
+        {106, 0, 11, 106},   /* unmarked, words not 0 */
+        {9, 1, 11, 8},       /* the same in exit 1 of method 0 */
+        {50, 256, 11, 48},   /* count of a stock */
+        {115, 254, 11, 111}, /* drop 254 */
+        {115, 257, 11, 111}, /* drop above none */
+        {2, 1, 12, 1},       /* more than the opening stock */
+        {104, 3, 12, 3},     /* more than granted, at the call */
+        {55, 0, 12, 5},      /* exit 0 of method 1 without its drop */
+        {109, 1, 12, 7},     /* more after the rounds */
+        {50, 2, 12, 8},      /* more for the second round */
+        {50, 0, 13, 3}};     /* obeys, but is too low */
+    uint8_t graph[MOST_GRAPH_BYTES];
+    draft_file_a(d, 2, 2);
+    size_t length = draft_write(d, graph), len = sheet_bytes(draft_shape(d));
+    expect(work_out_draft(d, sheet) == 0, "file A", 0);
+    for (unsigned i = 0; i < sizeof altered / sizeof altered[0]; i++) {
+        const struct alteration *a = &altered[i];
+        unsigned before = read_word(sheet + 2 * a->at);
+        write_word(sheet + 2 * a->at, a->value);
+        expect(check(graph, length, sheet, len)
+                   == packed(a->number, a->place), "sheet altered", i);
+        write_word(sheet + 2 * a->at, before);
+    }
+    write_word(sheet + 2 * 50, 3); /* breaks rule 8 at node 1 */
+    write_word(sheet + 2 * 55, 0); /* and rule 5 at node 4 */
+    expect(check(graph, length, sheet, len) == packed(12, 5), "two rules", 0);
+}
+
+static uint64_t draw_on_a_loop(struct draft *d, uint8_t *sheet, unsigned count)
+{
+    draft_start(d, 1);
+    unsigned drawn = draft_draw(d, draft_method(d), 0, 0);
+    draft_flow(d, drawn, drawn);
+    d->opening_count[0] = (uint16_t)count;
+    return work_out_draft(d, sheet);
+}
+
+/* A call whose method draws, then returns or throws to a draw at the caller. */
+static uint64_t throw_after_rounds(struct draft *d, uint8_t *sheet,
+                                   unsigned repeats)
+{
+    draft_start(d, 1);
+    d->opening_count[0] = 2;
+    unsigned main = draft_method(d), called = draft_method(d);
+    unsigned call = draft_call(d, main, repeats);
+    unsigned caught = draft_draw(d, main, 0, 0);
+    unsigned drawn = draft_draw(d, called, 0, 0);
+    draft_callee(d, call, called);
+    draft_flow(d, drawn, draft_node(d, called, RETURN));
+    draft_flow(d, drawn, draft_throw(d, called, 3));
+    draft_catch(d, call, 3, caught);
+    return work_out_draft(d, sheet);
+}
+
+/* A grant of 0 behind a call that never returns, before a covered draw. */
+static uint64_t grant_not_reached(struct draft *d, uint8_t *sheet)
+{
+    draft_start(d, 1);
+    d->opening_count[0] = 1;
+    unsigned main = draft_method(d), endless = draft_method(d);
+    unsigned start = draft_node(d, main, PLAIN);
+    unsigned call = draft_call(d, main, 1);
+    unsigned revoke = draft_grant(d, main, 0, 0, 0);
+    unsigned drawn = draft_draw(d, main, 0, 0);
+    draft_node(d, endless, PLAIN);
+    draft_flow(d, start, call);
+    draft_flow(d, start, drawn);
+    draft_flow(d, call, revoke);
+    draft_flow(d, revoke, drawn);
+    draft_callee(d, call, endless);
+    return work_out_draft(d, sheet);
+}
+
+static void test_figures(struct draft *d, uint8_t *sheet)
+{
+    test_k4_to_k8();
+    test_file_a(d, sheet);
+    test_k9_to_k11(d, sheet);
+    test_refusals(d, sheet);
+    test_places_of_refusals(d, sheet);
+    test_places_of_check(d, sheet);
+    expect(draw_on_a_loop(d, sheet, 255) == 0, "loop on endless", 0);
+    expect(draw_on_a_loop(d, sheet, 254) == packed(13, 0), "loop on 254", 0);
+    expect(throw_after_rounds(d, sheet, 1) == 0, "throw in round 1", 0);
+    expect(throw_after_rounds(d, sheet, 2) == packed(13, 1),
+           "throw in round 2", 0);
+    expect(grant_not_reached(d, sheet) == 0, "unreached grant 0", 0);
+    printf("figures: K1 to K11, the run-only ones, errors that look right, places"
+           " of answers\n");
+}
+
+/* ---- Check on sheets of every kind ---- */
+
+/* Whether the sheet marks all that the greatest marks, and lies below it. */
+static bool is_below(struct shape s, const uint8_t *sheet,
+                     const uint8_t *greatest)
+{
+    struct effects a, b;
+    for (unsigned block = 0; block < block_count(s); block++) {
+        if (!read_block(s, greatest, block, &b))
+            continue;
+        if (!read_block(s, sheet, block, &a))
+            return false;
+        for (unsigned t = 0; t < s.types; t++)
+            if (!at_most(a.of[t], b.of[t]))
+                return false;
+    }
+    return true;
+}
+
+static void test_sheets_of(struct random *r, const struct draft *d,
+                           const uint8_t *greatest, unsigned long seen[14])
+{
+    uint8_t graph[MOST_GRAPH_BYTES], sheet[ROOM];
+    size_t length = draft_write(d, graph);
+    struct shape s = draft_shape(d);
+    for (unsigned i = 0; i < 3 * SHEET_KINDS; i++) {
+        enum sheet_kind kind = i % SHEET_KINDS;
+        size_t sheet_len = generate_sheet(r, kind, s, greatest, sheet);
+        uint64_t answer = check(graph, length, sheet, sheet_len);
+        seen[answer & 0xFF]++;
+        if (is_verdict(answer))
+            expect(is_below(s, sheet, greatest), "obeys, so below", answer);
+        if (kind == WRONG_LENGTH)
+            expect(answer == packed(10, 0), "wrong length", answer);
+        if (kind == BLANK)
+            expect(answer == packed(12, 1), "blank", answer);
+        if (kind == LOWEST)
+            expect(is_verdict(answer), "the lowest obeys", answer);
+    }
+}
+
+static void print_seen(const char *what, unsigned long cases,
+                       const unsigned long seen[14])
+{
+    printf("%s: %lu cases, by answer", what, cases);
+    for (unsigned number = 0; number <= 13; number++)
+        printf(" %u:%lu", number, seen[number]);
+    printf("\n");
+}
+
+static void test_small_graphs(unsigned cases, struct draft *d, uint8_t *sheet)
+{
+    unsigned long worked[14] = {0}, checked[14] = {0};
+    for (unsigned i = 0; i < cases; i++) {
+        struct random r = random_of(SEED + 1, i);
+        generate_graph(&r, &small, d);
+        uint64_t answer = work_out_draft(d, sheet);
+        expect(is_verdict(answer), "generated graphs are well formed", answer);
+        worked[answer & 0xFF]++;
+        test_sheets_of(&r, d, sheet, checked);
+    }
+    print_seen("small graphs", cases, worked);
+    print_seen("their sheets", cases * 3ul * SHEET_KINDS, checked);
+}
+
+static void test_limit_graphs(unsigned cases, struct draft *d, uint8_t *sheet)
+{
+    unsigned long worked[14] = {0};
+    for (unsigned i = 0; i < cases; i++) {
+        struct random r = random_of(SEED + 2, i);
+        generate_limit_graph(&r, d);
+        uint64_t answer = work_out_draft(d, sheet);
+        expect(is_verdict(answer), "limit graphs are well formed", answer);
+        worked[answer & 0xFF]++;
+    }
+    print_seen("limit-size graphs", cases, worked);
+}
+
+static void test_damaged_files(unsigned cases, struct draft *d, uint8_t *sheet)
+{
+    unsigned long worked[14] = {0};
+    for (unsigned i = 0; i < cases; i++) {
+        struct random r = random_of(SEED + 3, i);
+        uint8_t graph[MOST_GRAPH_BYTES + MOST_ADDED];
+        generate_graph(&r, &small, d);
+        size_t length = draft_write(d, graph);
+        length = generate_damage(&r, d, graph, length);
+        size_t sheet_len = sheet_bytes(draft_shape(d));
+        memset(sheet, 0xA5, sheet_len);
+        worked[work_out(graph, length, sheet, sheet_len) & 0xFF]++;
+    }
+    print_seen("damaged files", cases, worked);
+}
+
+/* ---- The sheet against runs ---- */
+
+/* What runs bring is never less than the sheet says; answers whether it is
+ * just what the sheet says at every node. */
+static bool agrees_with_runs(const struct draft *d, const uint8_t *sheet,
+                             uint64_t answer, const struct runs *runs)
+{
+    bool exact = true;
+    unsigned overdrawn = d->nodes;
+    for (unsigned n = 0; n < d->nodes; n++) {
+        const struct brought *b = &runs->at[n];
+        struct effects stock;
+        bool reached = stock_at(d, sheet, n, &stock);
+        expect(reached || !b->arrived, "arrived, so reached", n);
+        exact = exact && reached == b->arrived;
+        for (unsigned t = 0; t < d->types && b->arrived; t++) {
+            unsigned rights = stock.of[t].keep_max, count = stock.of[t].cap;
+            expect(count <= b->fewest[t], "count brought", n);
+            expect((rights & ~b->always[t]) == 0, "rights brought", n);
+            exact = exact && count == b->fewest[t] && rights == b->always[t];
+        }
+        if (b->overdrawn && overdrawn == d->nodes)
+            overdrawn = n;
+    }
+    return exact
+        && answer == (overdrawn < d->nodes ? packed(13, overdrawn) : 0);
+}
+
+/* With fewer open calls, longer runs come within the limit of states. */
+static bool is_exact(const struct draft *d, const uint8_t *sheet,
+                     uint64_t answer, struct runs *runs)
+{
+    static const unsigned most_open[4] = {RUN_OPEN, 4, 3, 2};
+    bool exact = false;
+    for (unsigned i = 0; i < 4 && !exact; i++) {
+        follow_runs(d, most_open[i], runs);
+        exact = agrees_with_runs(d, sheet, answer, runs);
+        expect(exact || !runs->all, "the sheet is exact", d->nodes);
+    }
+    return exact;
+}
+
+static void test_runs(unsigned cases, struct draft *d, uint8_t *sheet)
+{
+    unsigned long exhausted = 0, cut_but_exact = 0;
+    struct runs *runs = malloc(sizeof *runs);
+    expect(runs != NULL, "memory", 0);
+    for (unsigned i = 0; i < cases; i++) {
+        struct random r = random_of(SEED + 4, i);
+        generate_graph(&r, &tiny, d);
+        uint64_t answer = work_out_draft(d, sheet);
+        bool exact = is_exact(d, sheet, answer, runs);
+        exhausted += runs->all;
+        cut_but_exact += exact && !runs->all;
+    }
+    free(runs);
+    printf("runs: %u graphs, %lu followed to the end and exact; of the other "
+           "%lu, exact %lu\n", cases, exhausted, cases - exhausted,
+           cut_but_exact);
+}
+
+int main(int argc, char **argv)
+{
+    unsigned cases = argc > 1 ? (unsigned)strtoul(argv[1], NULL, 10) : 5000;
+    struct draft d;
+    uint8_t sheet[ROOM];
+    memset(sheet, 0xA5, sizeof sheet);
+    test_effects();
+    test_figures(&d, sheet);
+    test_small_graphs(cases, &d, sheet);
+    test_limit_graphs(cases / 50, &d, sheet);
+    test_damaged_files(2 * cases, &d, sheet);
+    test_runs(2 * cases, &d, sheet);
+    printf("all passed\n");
+    return 0;
+}
