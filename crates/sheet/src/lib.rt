@@ -64,6 +64,38 @@ fn one_at(s: &[u8], t: usize, w: usize, k: usize) -> One
     single::nothing_done()
 }
 
+// The same, of a block that lies in the sheet.
+fn inner_one(s: &[u8], t: usize, w: usize, k: usize) -> One
+    requires { ⌜ (w < 4294967296) × (k < 6) × (2 * (w + effectSize t) ≤ length (now s)) ⌝ }
+    ensures { λ r. ⌜ r ≡ oneIf (ltb k t) (oneWords (now (s .entry)) (w + 1 + 4 * k)) ⌝ }
+{
+    if k < t {
+        let a = w + 1 + 4 * k;
+        return One {
+            keepin: words::inner_word(s, 2 * a) as u16,
+            keepmax: words::inner_word(s, 2 * (a + 1)) as u16,
+            cap: words::inner_word(s, 2 * (a + 2)) as u16,
+            drop: words::inner_word(s, 2 * (a + 3)) as u16,
+        };
+    }
+    single::nothing_done()
+}
+
+// The effect of a block that lies in the sheet.
+fn inner_effect(s: &[u8], t: usize, w: usize) -> Effect
+    requires { ⌜ (w < 4294967296) × (2 * (w + effectSize t) ≤ length (now s)) ⌝ }
+    ensures { λ r. ⌜ r ≡ effectAt (now (s .entry)) t w ⌝ }
+{
+    effect::effect_of(
+        inner_one(s, t, w, 0),
+        inner_one(s, t, w, 1),
+        inner_one(s, t, w, 2),
+        inner_one(s, t, w, 3),
+        inner_one(s, t, w, 4),
+        inner_one(s, t, w, 5),
+    )
+}
+
 // The stock of the block whose first word is w, of t types.
 pub fn stock(s: &[u8], t: usize, w: usize) -> Stock
     requires { ⌜ w < 4294967296 ⌝ }
@@ -79,11 +111,16 @@ pub fn stock(s: &[u8], t: usize, w: usize) -> Stock
     )
 }
 
-// The effect of the block whose first word is w, of t types.
+// The effect of the block whose first word is w, of t types. Nearly every block lies in the sheet whole, which is tested once.
 pub fn effect(s: &[u8], t: usize, w: usize) -> Effect
     requires { ⌜ w < 4294967296 ⌝ }
     ensures { λ r. ⌜ r ≡ effectAt (now (s .entry)) t w ⌝ }
 {
+    if t <= 6 {
+        if 2 * (w + 1 + 4 * t) <= s.len() {
+            return inner_effect(s, t, w);
+        }
+    }
     effect::effect_of(
         one_at(s, t, w, 0),
         one_at(s, t, w, 1),

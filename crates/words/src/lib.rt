@@ -1,6 +1,7 @@
 // Bytes and little-endian words of a lent slice. What lies past the end reads as 0, so no caller has an index to show.
 ghost use mathlib.Core.Path.{_≡_};
-ghost use Prim.Native.Nat.{_<_};
+ghost use Prim.Native.Nat.{_+_, _<_, _≤_};
+ghost use lib.ListN.{length};
 ghost use Rattle.words.specs.Bytes.{byteAt, wordAt};
 
 // The byte at `at`.
@@ -19,4 +20,12 @@ pub fn word(s: &[u8], at: usize) -> usize
     } else {
         0
     }
+}
+
+// The same, where both bytes are known to lie in the slice, so that nothing is tested.
+pub fn inner_word(s: &[u8], at: usize) -> usize
+    requires { ⌜ at + 2 ≤ length (now s) ⌝ }
+    ensures { λ r. ⌜ (r ≡ wordAt (now (s .entry)) at) × (r < 65536) ⌝ }
+{
+    s[at] as usize + 256 * (s[at + 1] as usize)
 }

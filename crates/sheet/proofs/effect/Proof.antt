@@ -1,13 +1,14 @@
 use mathlib.Core.Path.{_∙_}
 use Rattle.effect.specs.Six.{effectOf, among}
 use Rattle.sheet.specs.Read.{effectAt}
+use native.Mathlib.Omega.{arith}
 use borrow.Author.Needs.{needs}
 use Rattle.sheet.proofs.effect.Statement.{statement}
 use Rattle.sheet.proofs.effect.Tie as tie
 
-returns : tie.Need-returns
+returns-2 : tie.Need-returns-2
 unfolding effectAt
-returns c =
+returns-2 c =
     c .effect-of .ensures
     ∙ (λ i. effectOf (among
     (c .before .before .before .before .before .before .one-at .ensures i)
@@ -21,6 +22,12 @@ pub effect-spec : {M : Type 1} → statement M
 effect-spec =
     tie.close
     (tie.spec
+    (λ c. search needs)
+    (λ c. search needs)
+    (λ c. search needs)
+    (λ c. search needs)
+    (λ c κs. (c .before .before .before .pre, omega (arith, c .if2 .taken)))
+    (λ c. c .inner-effect .ensures)
     (λ c κs. search needs)
     (λ c κs. search needs)
     (λ c κs. search needs)
@@ -28,4 +35,4 @@ effect-spec =
     (λ c κs. search needs)
     (λ c κs. search needs)
     (λ c κs. search needs)
-    returns)
+    returns-2)

@@ -1,0 +1,41 @@
+use Prim.Native.Nat.{_+_}
+use denote.Ref.{now}
+use native.Mathlib.Omega.{arith}
+use borrow.Author.Needs.{needs}
+use Rattle.words.specs.Bytes.{wordAt}
+use Rattle.words.proofs.Read.{byte-is}
+use Rattle.words.proofs.inner_word.Statement.{statement}
+use Rattle.words.proofs.inner_word.Tie as tie
+
+low : tie.Need-cast-result
+low c = omega (arith, c .shared-slice-known .given (c .before .args .at))
+
+high : tie.Need-cast-result-2
+high c = omega (arith, c .shared-slice-known2 .given (c .before .before .args .at + 1))
+
+mul-result : tie.Need-mul-result
+mul-result c = omega (arith, c .shared-slice-known2 .given (c .before .before .args .at + 1))
+
+add-result-2 : tie.Need-add-result-2
+add-result-2 c = omega (arith, c .before .shared-slice-known .given (c .before .before .args .at), c .shared-slice-known2 .given (c .before .before .args .at + 1))
+
+returns : tie.Need-returns
+unfolding wordAt
+returns c =
+    let a = c .before .before .args in
+    let l = c .before .shared-slice-known .given (a .at) in
+    let h = c .shared-slice-known2 .given (a .at + 1) in
+    omega (arith, l, h, byte-is (now (a .s)) (a .at) (omega (arith, l)), byte-is (now (a .s)) (a .at + 1) (omega (arith, h)))
+
+pub inner-word-spec : {M : Type 1} → statement M
+inner-word-spec =
+    tie.close
+    (tie.spec
+    (λ c. search needs)
+    low
+    (λ c. search needs)
+    (λ c. search needs)
+    high
+    mul-result
+    add-result-2
+    returns)
