@@ -8,22 +8,22 @@ use Rattle.words.proofs.inner_word.Statement.{statement}
 use Rattle.words.proofs.inner_word.Tie as tie
 
 low : tie.Need-cast-result
-low c = omega (arith, c .shared-slice-known .given (c .before .args .at))
+low c = let a = c .before .args .at in omega (arith, c .shared-slice-known .given a, c .shared-slice-known .given (a + 1))
 
 high : tie.Need-cast-result-2
-high c = omega (arith, c .shared-slice-known2 .given (c .before .before .args .at + 1))
+high c = let a = c .before .before .args .at in omega (arith, c .shared-slice-known2 .given a, c .shared-slice-known2 .given (a + 1))
 
 mul-result : tie.Need-mul-result
-mul-result c = omega (arith, c .shared-slice-known2 .given (c .before .before .args .at + 1))
+mul-result c = let a = c .before .before .args .at in omega (arith, c .shared-slice-known2 .given a, c .shared-slice-known2 .given (a + 1))
 
 add-result-2 : tie.Need-add-result-2
-add-result-2 c = omega (arith, c .before .shared-slice-known .given (c .before .before .args .at), c .shared-slice-known2 .given (c .before .before .args .at + 1))
+add-result-2 c = let a = c .before .before .args .at in omega (arith, c .shared-slice-known2 .given a, c .shared-slice-known2 .given (a + 1))
 
 returns : tie.Need-returns
 unfolding wordAt
 returns c =
     let a = c .before .before .args in
-    let l = c .before .shared-slice-known .given (a .at) in
+    let l = c .shared-slice-known2 .given (a .at) in
     let h = c .shared-slice-known2 .given (a .at + 1) in
     omega (arith, l, h, byte-is (now (a .s)) (a .at) (omega (arith, l)), byte-is (now (a .s)) (a .at + 1) (omega (arith, h)))
 
