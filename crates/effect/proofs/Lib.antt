@@ -8,4 +8,3 @@ pub mod Six
 pub mod Laws
 pub mod Potential
 pub mod Coordinate
-pub mod Known

@@ -23,12 +23,16 @@ module _ (S : Setting) where
   open Told (S .told) using (Needs, enough, short)
 
   module _ (T : Sheet W) (O : Obeys W G step opening T) where
-    -- No graph with a sheet that obeys and covers, made by anyone, has a run that overdraws.
-    pub never-overdraws : ((n : ℕ) → Reached W G T n → Covers n (stock-at W G T n)) → (n : ℕ) → Overdraws G D opening n → ⊥
-    never-overdraws C n (s, p, u) =
+    -- No run overdraws at a node whose draw a sheet that obeys covers, where it calls the node reached at all.
+    pub never-overdraws-at : (n : ℕ) → (Reached W G T n → Covers n (stock-at W G T n)) → Overdraws G D opening n → ⊥
+    never-overdraws-at n C (s, p, u) =
         let b = sound S T O (p .1) in
         let i = short n s u in
-        omega (arith, enough n (stock-at W G T n) (C n (b .0)) (i .0) (i .1), b .1 (i .0), i .2)
+        omega (arith, enough n (stock-at W G T n) (C (b .0)) (i .0) (i .1), b .1 (i .0), i .2)
+
+    -- No graph with a sheet that obeys and covers, made by anyone, has a run that overdraws.
+    pub never-overdraws : ((n : ℕ) → Reached W G T n → Covers n (stock-at W G T n)) → (n : ℕ) → Overdraws G D opening n → ⊥
+    never-overdraws C n = never-overdraws-at n (C n)
 
     module _ (A : Attained S T) where
       -- a run that brings as little as the sheet says

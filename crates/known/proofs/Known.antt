@@ -1,0 +1,113 @@
+-- Every row of the table is true. The proof is one computation, so it opens all that check and the runs are defined by.
+use Prim.Native.Nat.{ℕ}
+use mathlib.Core.Path.{_≡_, refl}
+use mathlib.Core.Bool.{true, cond}
+use mathlib.Core.List.{List, [], _∷_, _++_}
+use lib.ListN.{replicate}
+use lib.Dec.{eqb}
+use Rattle.words.specs.Bytes.{byteAt, wordAt}
+use Rattle.words.specs.Lowest.{lowest}
+use Rattle.single.specs.Number.{less, left, countAfter, rightsAfter, normDrop, thenCap, sumDrop, rank, largerDrop, countAtMost, within}
+use Rattle.single.specs.Single.{normalForm, normalOne, idle, drawn, granted, applyOne, thenOne, bothOne, atMostOne, heldAtMost, coversHeld}
+use Rattle.effect.specs.Whole.{normalOf, nothingDone, drawOf, grantOf, applyOf, thenOf, bothOf, atMostOf, stockAtMostOf, coversOf}
+use Rattle.model.specs.Stocks.{holding, oneTaken, done, stepOf}
+use Rattle.model.specs.Rounds.{lowest-rounds, whole-rounds, earlier-rounds}
+use Rattle.tables.specs.Trailer.{trailerAt, trailer, tablesOf}
+use Rattle.tables.specs.Fields.{entryOf, nodeMethod, nodeKind, nodeNumber, nodeCount, nodeRights, flowFrom, flowTo, callNode, callMethod, openingRights, openingCount}
+use Rattle.refuse.specs.Bad.{above, notAbove, flowRow, countBad, lengthBad, entryBad, outOfRange, unusedSet, nodeBad, flowBad, callBad, openingBad}
+use Rattle.graph.specs.Judge.{judgeRows, judgeIn}
+use Rattle.rows.specs.Rows.{firstRow}
+use Rattle.nodes.specs.Nodes.{doesIn, openingAt, openingIn}
+use Rattle.layout.specs.Layout.{methodAt, exitAt, nodeAt, sheetWords, sheetBytes, blockSize, blockAt}
+use Rattle.sheet.specs.Read.{stockAt, effectAt}
+use Rattle.formed.specs.Ill.{someWord, countsFit, illBlock}
+use Rattle.rounds.specs.Rounds.{wholeOf, roundsOf}
+use Rattle.demand.specs.Demand.{marked, asked, unasked, entryDemand, flowDemand, returnDemand, leaveDemand, nodeDemand, calledIn}
+use Rattle.rules.specs.Tests.{effectUnder, stockUnder, met, allFor, targetUnder, startUnder, afterCall, intoCall}
+use Rattle.rules.specs.Broken.{leastOf, thrownBroken, calledBroken, callBroken, nodeBroken, brokenOf}
+use Rattle.permit.specs.Check.{uncoveredAt, wholeSheet, judgedSheet, checkOf}
+use Rattle.known.specs.File.{words, nodeRows, pairs, triples, distance, fileBytes}
+use Rattle.known.specs.Table.{aWith, revoked, withoutRight, neverReturns, table}
+use Rattle.known.specs.Known.{AllKnown}
+use Rattle.known.proofs.Follows.{flow, call, repeat, overdraws, follows}
+use Rattle.known.proofs.Truth.{Certificate, sameOne, test, tests, all-true}
+
+-- File A is the 68 bytes that the document gives.
+pub a-bytes : fileBytes (aWith 2 2)
+    ≡ 0x00 ∷ 0x00 ∷ 0x03 ∷ 0x00
+    ∷ 0x00 ∷ 0x01 ∷ 0x00 ∷ 0x02 ∷ 0x01 ∷ 0x01
+    ∷ 0x00 ∷ 0x03 ∷ 0x00 ∷ 0x02 ∷ 0x00 ∷ 0x00
+    ∷ 0x00 ∷ 0x04 ∷ 0x00 ∷ 0x00 ∷ 0x00 ∷ 0x00
+    ∷ 0x01 ∷ 0x02 ∷ 0x00 ∷ 0x00 ∷ 0x01 ∷ 0x01
+    ∷ 0x01 ∷ 0x04 ∷ 0x00 ∷ 0x00 ∷ 0x00 ∷ 0x00
+    ∷ 0x00 ∷ 0x00 ∷ 0x01 ∷ 0x00 ∷ 0x01 ∷ 0x00 ∷ 0x02 ∷ 0x00 ∷ 0x03 ∷ 0x00 ∷ 0x04 ∷ 0x00
+    ∷ 0x01 ∷ 0x00 ∷ 0x01 ∷ 0x00
+    ∷ 0x00 ∷ 0x00 ∷ 0x00 ∷ 0x00
+    ∷ 0x02 ∷ 0x00 ∷ 0x05 ∷ 0x00 ∷ 0x03 ∷ 0x00 ∷ 0x01 ∷ 0x00 ∷ 0x00 ∷ 0x00 ∷ 0x01 ∷ 0x00 ∷ 0x36 ∷ 0x00
+    ∷ []
+unfolding words nodeRows pairs triples distance fileBytes aWith
+a-bytes = refl
+
+-- The words of a sheet's blocks, for one type: a marked stock, a marked effect, and an exit or a node with no mark.
+abbrev held : ℕ → ℕ → List ℕ
+held rights count = 1 ∷ rights ∷ count ∷ []
+
+abbrev effect : ℕ → ℕ → ℕ → ℕ → List ℕ
+effect keepin keepmax cap drop = 1 ∷ keepin ∷ keepmax ∷ cap ∷ drop ∷ []
+
+abbrev unmarked : List ℕ
+unmarked = replicate 5 0
+
+-- a node before which nothing is done
+abbrev idle-node : List ℕ
+idle-node = effect 0 0xffff 255 0
+
+-- a method's stock and its return; no exception leaves a method of the table, so the other eight exits have no mark
+abbrev method : List ℕ → List ℕ → List ℕ
+method stock return = stock ++ return ++ replicate 40 0
+
+-- File A's sheet: what is granted, the least that method 1 is entered with, and what is left at the end.
+abbrev a-sheet : ℕ → ℕ → ℕ → List ℕ
+a-sheet granted least left =
+    words
+    (method (held 0 0) (effect 0x0101 0x0101 left 256)
+    ++ method (held 0x0101 least) (effect 0 0xffff 255 1)
+    ++ idle-node
+    ++ effect 0x0101 0x0101 granted 256
+    ++ effect 0x0101 0x0101 left 256
+    ++ idle-node
+    ++ effect 0 0xffff 255 1)
+
+-- By the number of the row, the sheet and the choices; a row on effects needs none.
+certificates : List (ℕ × Certificate)
+certificates =
+    (1, (a-sheet 2 1 0, []))
+    -- the grant, the call, two rounds, and the draw of the third
+    ∷ (2, (a-sheet 2 0 0, flow 0 ∷ call 0 ∷ flow 2 ∷ repeat ∷ flow 2 ∷ repeat ∷ []))
+    ∷ (3, (a-sheet 255 255 255, []))
+    ∷ (9, (words (method (held 0x0101 255) unmarked ++ idle-node ++ effect 0x0101 0x0101 0 256), flow 0 ∷ []))
+    ∷ (10, (words (method (held 0x0101 255) unmarked ++ idle-node), []))
+    ∷ (11, (words (method (held 0 0) unmarked ++ method (held 0 0) unmarked ++ idle-node ++ unmarked ++ idle-node), []))
+    ∷ []
+
+find : List (ℕ × Certificate) → ℕ → Certificate
+find [] n = ([], [])
+find (c ∷ d) n = cond (eqb (c .0) n) (c .1) (find d n)
+
+tested : tests (find certificates) table ≡ true
+unfolding byteAt wordAt lowest
+    less left countAfter rightsAfter normDrop thenCap sumDrop rank largerDrop countAtMost within normalForm normalOne idle drawn granted applyOne thenOne bothOne atMostOne heldAtMost coversHeld
+    normalOf nothingDone drawOf grantOf applyOf thenOf bothOf atMostOf stockAtMostOf coversOf holding oneTaken done stepOf lowest-rounds whole-rounds earlier-rounds
+    trailerAt trailer tablesOf entryOf nodeMethod nodeKind nodeNumber nodeCount nodeRights flowFrom flowTo callNode callMethod openingRights openingCount
+    above notAbove flowRow countBad lengthBad entryBad outOfRange unusedSet nodeBad flowBad callBad openingBad judgeRows judgeIn
+    firstRow doesIn openingAt openingIn methodAt exitAt nodeAt sheetWords sheetBytes blockSize blockAt
+    stockAt effectAt someWord countsFit illBlock wholeOf roundsOf
+    marked asked unasked entryDemand flowDemand returnDemand leaveDemand nodeDemand calledIn
+    effectUnder stockUnder met allFor targetUnder startUnder afterCall intoCall leastOf thrownBroken calledBroken callBroken nodeBroken brokenOf
+    uncoveredAt wholeSheet judgedSheet checkOf
+    words nodeRows pairs triples distance fileBytes aWith revoked withoutRight neverReturns table overdraws follows sameOne test tests certificates find
+tested = refl
+
+-- K1 to K11 hold.
+pub all-known : AllKnown table
+all-known = all-true (find certificates) table tested

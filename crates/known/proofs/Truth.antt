@@ -1,0 +1,134 @@
+-- The test of a row, and that a row that passes it is true.
+use Prim.Native.Nat.{ℕ, _<_}
+use mathlib.Core.Path.{_≡_, subst}
+use mathlib.Core.Bool.{Bool, true, false, _&&_, not}
+use mathlib.Core.List.{List, [], _∷_}
+use native.Mathlib.Omega.{arith}
+use lib.Dec.{eqb}
+use borrow.Author.Tests.{eqb-true, not-true}
+use Rattle.answer.specs.declared.Answer.{Answer}
+use Rattle.answer.specs.declared.Answer.the-variants.{Pass, Overdrawn}
+use Rattle.answer.specs.Number.{numberOf, placeOf}
+use Rattle.answer.proofs.Unpack.{zero-pass}
+use Rattle.single.specs.declared.One.{One}
+use Rattle.effect.specs.declared.Stock.{Stock}
+use Rattle.effect.specs.Whole.{normalOf, atMostOf}
+use Rattle.effect.proofs.Bools.{and-l, and-r, clash}
+use Rattle.effect.proofs.Laws.{at-most-sound, at-most-complete}
+use Rattle.model.proofs.Sound.{sound}
+use Rattle.model.proofs.Exact.{never-overdraws-at}
+use Rattle.tables.specs.Trailer.{tablesOf}
+use Rattle.tables.specs.Fields.{entryOf}
+use Rattle.graph.proofs.Judged.{judge-few}
+use Rattle.nodes.specs.Nodes.{openingIn}
+use Rattle.nodes.proofs.Setting.{setting}
+use Rattle.layout.specs.Layout.{nodeAt}
+use Rattle.demand.specs.Demand.{marked}
+use Rattle.rules.specs.Sheet.{shapeOf}
+use Rattle.rules.proofs.Blocks.{true-mark}
+use Rattle.permit.specs.Check.{checkOf}
+use Rattle.permit.specs.Meaning.{sheet, WellFormed, Holds, IsReached, IsCovered, Checks, refused, wrong-length, ill-formed, broken, overdrawn, accepted}
+use Rattle.permit.proofs.Meaning.{checks, accepts, safe}
+use Rattle.work.specs.Meaning as work
+use Rattle.work.proofs.Agree.{wrote}
+use Rattle.work.proofs.Only.{only}
+use Rattle.known.specs.File.{fileBytes}
+use Rattle.known.specs.Table.{Claim}
+use Rattle.known.specs.Table as table
+use Rattle.known.specs.Known.{Answers, Known, AllKnown}
+use Rattle.known.proofs.Follows.{Choice, follows, overdrawn-by}
+
+-- What a row on a file is shown by: a sheet on which check gives the row's verdict, and for an overdraft the choices of a run.
+abbrev pub Certificate : Type 0
+Certificate = List ℕ × List Choice
+
+-- the two are the same, field by field
+unfoldable pub sameOne : One → One → Bool
+sameOne x y = eqb (x .keepin) (y .keepin) && eqb (x .keepmax) (y .keepmax) && eqb (x .cap) (y .cap) && eqb (x .drop) (y .drop)
+
+-- The test of a row.
+unfoldable pub test : Claim → Certificate → Bool
+test (table.passes g) c = eqb (numberOf (checkOf (fileBytes g) (c .0))) 0
+test (table.overdrawn g n) c =
+    eqb (numberOf (checkOf (fileBytes g) (c .0))) 13
+    && eqb (placeOf (checkOf (fileBytes g) (c .0))) n
+    && follows (fileBytes g) n (c .1) (entryOf (fileBytes g) 0) [] (openingIn (fileBytes g) (tablesOf (fileBytes g)))
+test (table.unreached g n) c =
+    eqb (numberOf (checkOf (fileBytes g) (c .0))) 0 && not (marked (c .0) (nodeAt (shapeOf (tablesOf (fileBytes g))) n))
+test (table.same x y) c = sameOne x y
+test (table.at-most a b) c = atMostOf a b
+test (table.not-at-most a b) c = normalOf a && not (atMostOf a b)
+
+module _ (f u : List ℕ) where
+  -- Check's verdict 13 on a sheet: the sheet obeys, and below the node named it covers every draw that it calls reached.
+  abbrev CoversBelow : ℕ → Type 0
+  CoversBelow n = WellFormed f u × ((r : ℕ) → Holds f u r) × ((m : ℕ) → m < n → IsReached f u m → IsCovered f u m)
+
+  was-overdrawn : {a : Answer} → Checks f u a → numberOf a ≡ 13 → CoversBelow (placeOf a)
+  was-overdrawn (refused n) e = absurd (omega (arith, judge-few f (tablesOf f)))
+  was-overdrawn (wrong-length p n) e = absurd (omega arith)
+  was-overdrawn (ill-formed p q b l h k) e = absurd (omega arith)
+  was-overdrawn (broken w r h n) e = absurd (omega arith)
+  was-overdrawn (overdrawn w h n y k b) e = (w, h, b)
+  was-overdrawn (accepted w h k) e = absurd (omega arith)
+
+  -- With the sheet that work out wrote, its one answer is the one that the runs give: no run overdraws,
+  if-passes : checkOf f u ≡ Pass → Answers f Pass
+  if-passes e s r b l w = only f s r r w (work.passes l (wrote f s r w (accepts f u .0 e .0 .0) l .0) (safe f u e)) .0
+
+  -- or one overdraws at n, and none at a lower node.
+  if-overdrawn : (n : ℕ) → numberOf (checkOf f u) ≡ 13 → placeOf (checkOf f u) ≡ n → work.Overdrawing f n → Answers f (Overdrawn n)
+  if-overdrawn n e p o s r b l w = only f s r r w (work.overdrawn l (wrote f s r w (c .0 .0) l .0) n o below) .0
+    where
+      c : CoversBelow n
+      c = subst CoversBelow p (was-overdrawn (checks f u) e)
+
+      below : (m : ℕ) → m < n → work.Overdrawing f m → ⊥
+      below m h = never-overdraws-at (setting f (c .0 .0)) (sheet f u) (c .1) m (c .2 m h)
+
+  -- And no run arrives at a node that the sheet does not mark.
+  if-unmarked : checkOf f u ≡ Pass → (n : ℕ) → marked u (nodeAt (shapeOf (tablesOf f)) n) ≡ false → (h : Stock) → work.Brings f n h → ⊥
+  if-unmarked e n m h b =
+      let a = accepts f u .0 e in
+      clash _ (true-mark u _ (sound (setting f (a .0 .0)) (sheet f u) (a .1) (b .1) .0 .0 .1)) m
+
+same-one : (x y : One) → sameOne x y ≡ true → x ≡ y
+unfolding sameOne
+same-one x y h =
+    let a = eqb (x .keepin) (y .keepin) in
+    let b = eqb (x .keepmax) (y .keepmax) in
+    let c = eqb (x .cap) (y .cap) in
+    let p = and-l (a && b && c) _ h in
+    let q = and-l (a && b) c p in
+    λ i. record {
+      keepin = eqb-true (x .keepin) (y .keepin) (and-l a b q) i;
+      keepmax = eqb-true (x .keepmax) (y .keepmax) (and-r a b q) i;
+      cap = eqb-true (x .cap) (y .cap) (and-r (a && b) c p) i;
+      drop = eqb-true (x .drop) (y .drop) (and-r (a && b && c) _ h) i;
+    }
+
+-- A row that passes its test is true.
+pub truth : (r : Claim) (c : Certificate) → test r c ≡ true → Known r
+unfolding test
+truth (table.passes g) c h = if-passes (fileBytes g) (c .0) (zero-pass _ (eqb-true _ 0 h))
+truth (table.overdrawn g n) c h =
+    let a = checkOf (fileBytes g) (c .0) in
+    let e = and-l (eqb (numberOf a) 13 && eqb (placeOf a) n) _ h in
+    if-overdrawn (fileBytes g) (c .0) n (eqb-true _ 13 (and-l (eqb (numberOf a) 13) _ e)) (eqb-true _ n (and-r (eqb (numberOf a) 13) _ e))
+    (overdrawn-by (fileBytes g) n (c .1) (and-r (eqb (numberOf a) 13 && eqb (placeOf a) n) _ h))
+truth (table.unreached g n) c h =
+    let p = eqb (numberOf (checkOf (fileBytes g) (c .0))) 0 in
+    if-unmarked (fileBytes g) (c .0) (zero-pass _ (eqb-true _ 0 (and-l p _ h))) n (not-true _ (and-r p _ h))
+truth (table.same x y) c h = same-one x y h
+truth (table.at-most a b) c h = at-most-sound a b h
+truth (table.not-at-most a b) c h = λ q. clash (atMostOf a b) (at-most-complete a b (and-l (normalOf a) _ h) q) (not-true _ (and-r (normalOf a) _ h))
+
+-- every row of a table, shown by the certificate of its number
+unfoldable pub tests : (ℕ → Certificate) → List (ℕ × Claim) → Bool
+tests c [] = true
+tests c (r ∷ t) = test (r .1) (c (r .0)) && tests c t
+
+pub all-true : (c : ℕ → Certificate) (t : List (ℕ × Claim)) → tests c t ≡ true → AllKnown t
+unfolding tests
+all-true c [] h = tt
+all-true c (r ∷ t) h = let e = test (r .1) (c (r .0)) in (truth (r .1) (c (r .0)) (and-l e _ h), all-true c t (and-r e _ h))

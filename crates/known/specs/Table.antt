@@ -1,0 +1,105 @@
+-- Document 01's known answers, K1 to K11, as one table.
+use Prim.Native.Nat.{ℕ}
+use mathlib.Core.List.{List, [], _∷_}
+use Rattle.single.specs.declared.One.{One}
+use Rattle.effect.specs.declared.Effect.{Effect}
+use Rattle.effect.specs.Six.{oneAt, effectOf}
+use Rattle.effect.specs.Whole.{nothingDone, grantOf, thenOf, bothOf}
+use Rattle.tables.specs.Kinds.{plainKind, grantKind, drawKind, callKind, returnKind}
+use Rattle.known.specs.File.{node, File}
+
+-- What a row says.
+pub data Claim : Type 0 where
+  -- the file passes; it is overdrawn, and the node
+  passes : File → Claim
+  overdrawn : File → ℕ → Claim
+  -- no run of the file arrives at the node
+  unreached : File → ℕ → Claim
+  -- of effects at one type, the two are the same
+  same : One → One → Claim
+  -- the first effect is at most the second; it is not
+  at-most : Effect → Effect → Claim
+  not-at-most : Effect → Effect → Claim
+
+-- K1 to K3: file A, with so much granted and so many repeats.
+unfoldable pub aWith : ℕ → ℕ → File
+aWith granted repeats =
+    record {
+      methods = 0 ∷ 3 ∷ [];
+      nodes =
+          node 0 grantKind 0 granted 0x0101
+          ∷ node 0 callKind 0 repeats 0
+          ∷ node 0 returnKind 0 0 0
+          ∷ node 1 drawKind 0 0 0x0101
+          ∷ node 1 returnKind 0 0 0
+          ∷ [];
+      flow = (0, 1) ∷ (1, 2) ∷ (3, 4) ∷ [];
+      calls = (1, 1) ∷ [];
+      catches = [];
+      opening = (0, 0) ∷ [];
+    }
+
+-- K9: a grant 0 and then a draw, on an endless opening stock that has the right.
+unfoldable pub revoked : File
+revoked =
+    record {
+      methods = 0 ∷ [];
+      nodes = node 0 grantKind 0 0 0x0101 ∷ node 0 drawKind 0 0 0x0101 ∷ [];
+      flow = (0, 1) ∷ [];
+      calls = [];
+      catches = [];
+      opening = (0x0101, 255) ∷ [];
+    }
+
+-- K10: a draw of 0301h, on an endless opening stock of rights 0101h.
+unfoldable pub withoutRight : File
+withoutRight =
+    record {
+      methods = 0 ∷ [];
+      nodes = node 0 drawKind 0 0 0x0301 ∷ [];
+      flow = [];
+      calls = [];
+      catches = [];
+      opening = (0x0101, 255) ∷ [];
+    }
+
+-- K11: a call, and behind it a draw that nothing covers; the method called is one plain node on a loop.
+unfoldable pub neverReturns : File
+neverReturns =
+    record {
+      methods = 0 ∷ 2 ∷ [];
+      nodes = node 0 callKind 0 1 0 ∷ node 0 drawKind 0 0 0x0101 ∷ node 1 plainKind 0 0 0 ∷ [];
+      flow = (0, 1) ∷ (2, 2) ∷ [];
+      calls = (0, 1) ∷ [];
+      catches = [];
+      opening = (0, 0) ∷ [];
+    }
+
+-- keep-in, keep-max, cap, drop; and the effect that is so at every type
+abbrev pub one : ℕ → ℕ → ℕ → ℕ → One
+one i m c d = record { keepin = i; keepmax = m; cap = c; drop = d }
+
+abbrev pub every : One → Effect
+every x = effectOf (λ k. x)
+
+-- a drop with all rights kept and cap 255
+abbrev pub dropping : ℕ → Effect
+dropping d = every (one 0 0xffff 255 d)
+
+-- The number of each row, and what it says.
+unfoldable pub table : List (ℕ × Claim)
+table =
+    (1, passes (aWith 2 2))
+    ∷ (2, overdrawn (aWith 2 3) 3)
+    ∷ (3, passes (aWith 255 255))
+    ∷ (4, same (oneAt (thenOf (dropping 200) (dropping 100)) 0) (one 0 0xffff 255 255))
+    ∷ (5, same (oneAt (thenOf (dropping 253) (dropping 1)) 0) (one 0 0xffff 255 255))
+    ∷ (6, same (oneAt (bothOf (grantOf 0 0x0101 3) nothingDone) 0) (one 0 0x0101 3 0))
+    ∷ (7, at-most (every (one 0 0x0101 0 256)) (every (one 0 0x0101 5 9)))
+    ∷ (7, not-at-most (every (one 0 0x0101 5 9)) (every (one 0 0x0101 0 256)))
+    ∷ (8, same (oneAt (thenOf (grantOf 0 0x0101 2) (dropping 2)) 0) (one 0x0101 0x0101 0 256))
+    ∷ (9, overdrawn revoked 1)
+    ∷ (10, overdrawn withoutRight 0)
+    ∷ (11, unreached neverReturns 1)
+    ∷ (11, passes neverReturns)
+    ∷ []
