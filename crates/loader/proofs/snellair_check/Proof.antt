@@ -6,8 +6,7 @@ use Rattle.loader.proofs.snellair_check.Tie as tie
 
 returns : tie.Need-returns
 returns c =
-    let check = c .before in
-    (
+    let check = c .before in (
       c .packed .ensures ∙ ap packedOf (check .check .ensures .0),
       record { answer = check .check .result; checks = check .check .ensures .1; packed = c .packed .ensures },
     )
