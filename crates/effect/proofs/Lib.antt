@@ -8,3 +8,4 @@ pub mod Six
 pub mod Laws
 pub mod Potential
 pub mod Coordinate
+pub mod Types

@@ -4,7 +4,7 @@ use mathlib.Core.Path.{_≡_}
 use mathlib.Core.List.{List}
 use Rattle.answer.specs.declared.Answer.{Answer}
 use Rattle.answer.specs.Number.{packedOf}
-use Rattle.permit.specs.Meaning.{Checks}
+use Rattle.permit.specs.Meaning.{Checks, Safe}
 use Rattle.work.specs.Meaning.{WorksOut}
 
 -- of work out: s is the lent sheet before and r after
@@ -13,8 +13,9 @@ pub record WorkedOut (f s r : List ℕ) (n : ℕ) : Type 0 where
   pub works : WorksOut f s r answer
   pub packed : n ≡ packedOf answer
 
--- of check
+-- of check; the number 0 is given for no graph that has a run that overdraws
 pub record Checked (f s : List ℕ) (n : ℕ) : Type 0 where
   pub answer : Answer
   pub checks : Checks f s answer
+  pub safe : Safe f answer
   pub packed : n ≡ packedOf answer

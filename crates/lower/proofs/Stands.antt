@@ -1,24 +1,20 @@
 -- What may stand in a block: the operations keep to it, and so do the file's steps and opening stock and the blocks of a
 -- well-formed sheet.
-use Prim.Native.Nat.{ℕ, zero, suc, _+_, _-_, _*_, _≤_, _<_}
-use mathlib.Core.Path.{_≡_, refl, sym, subst, _∙_}
+use Prim.Native.Nat.{ℕ, zero, suc, _+_, _-_, _*_, _<_}
+use mathlib.Core.Path.{_≡_, refl, sym, subst}
 use mathlib.Core.Bool.{Bool, true, false}
 use mathlib.Core.List.{List}
-use lib.Bits.{bitOr, and-le-l, and-le-r}
-use lib.Dec.{leb, eqb}
-use borrow.Author.Tests.{le-leb, ne-eqb}
+use lib.Dec.{leb}
+use borrow.Author.Tests.{le-leb}
 use native.Mathlib.Decide.{ℕ-discrete, decLt}
 use native.Mathlib.Omega.{arith}
 use Rattle.words.proofs.Read.{word-lt}
-use Rattle.single.specs.declared.Held.{Held}
-use Rattle.single.specs.declared.One.{One}
-use Rattle.single.specs.Number.{less, left, countAfter, rightsAfter, normDrop, thenCap, sumDrop, rank, largerDrop}
-use Rattle.single.specs.Single.{normalForm, idle, drawn, granted, applyOne, thenOne, bothOne, lowerHeld}
 use Rattle.effect.specs.declared.Stock.{Stock}
 use Rattle.effect.specs.declared.Effect.{Effect}
-use Rattle.effect.specs.Six.{heldAt, stockOf, noneHeld, oneAt, effectOf}
-use Rattle.effect.specs.Whole.{normalOf, nothingDone, oneIf, drawOf, grantOf, applyOf, thenOf, bothOf, lowerOf}
-use Rattle.effect.proofs.Six.{all-i, stock-at, effect-at}
+use Rattle.effect.specs.Six.{heldAt, oneAt}
+use Rattle.effect.specs.Whole.{normalOf, nothingDone, drawOf, grantOf, applyOf, thenOf, bothOf, lowerOf}
+use Rattle.effect.proofs.Six.{all-i}
+use Rattle.effect.proofs.Types.{EffectOf, StockOf, stock-of, nothing-of, then-of, both-of, apply-of, lower-of, draw-of, grant-of}
 use Rattle.effect.proofs.Laws.{Fits, nothing-normal, draw-normal, grant-normal, then-normal, both-normal, normal-at}
 use Rattle.model.specs.Stocks.{permits, Does, plain, stepOf}
 use Rattle.model.specs.Rounds.{lowest-rounds, whole-rounds, earlier-rounds}
@@ -42,85 +38,41 @@ use Rattle.rules.proofs.Blocks.{block-formed}
 use Rattle.lower.proofs.Good.{Stands, StockStands}
 use Rattle.lower.proofs.Numbers.{method-stock, node-effect, exit-effect}
 
--- An effect that is given type by type stands if it is normal, its rights are words, and nothing is done to a type past the t.
-module _ (t : ℕ) (g : ℕ → One) where
-  effect-stands : normalOf (effectOf g) ≡ true → ((k : ℕ) → k < 6 → g k .keepmax < 65536) → ((k : ℕ) → t ≤ k → k < 6 → g k ≡ idle)
-      → Stands t (effectOf g)
-  effect-stands n m r =
+-- A normal effect of t types stands, and a stock of t types.
+module _ (t : ℕ) (e : Effect) where
+  stands : normalOf e ≡ true → EffectOf t e → Stands t e
+  stands n p = record { normal = n; fits = record { six = p .six; fit = λ k l. normal-fits (oneAt e k) (normal-at e n k l) (p .words k l); rest = p .rest } }
+
+  types : Stands t e → EffectOf t e
+  types p = record { six = p .fits .six; words = λ k l. p .fits .fit k l .keepmax-fits; rest = p .fits .rest }
+
+module _ (t : ℕ) (h : Stock) where
+  stock-stands : StockOf t h → StockStands t h
+  unfolding countsFit
+  stock-stands p =
       record {
-        normal = n;
-        fits = record {
-          six = refl;
-          fit = λ k l. normal-fits (oneAt (effectOf g) k) (normal-at (effectOf g) n k l) (subst (λ (o : One). o .keepmax < 65536) (sym (effect-at g k l)) (m k l));
-          rest = λ k u l. effect-at g k l ∙ r k u l;
-        };
+        counts = all-i (λ (k : ℕ). leb (heldAt h k .count) 255) (λ k l. le-leb (heldAt h k .count) 255 (p .fit k l .1));
+        fits = record { six = p .six; fit = λ k l. record { rights-fit = p .fit k l .0; count-fits = omega (arith, p .fit k l .1) }; rest = p .rest };
       }
 
--- and a stock, if its rights are words, its counts are at most 255, and nothing is held of a type past the t
-module _ (t : ℕ) (g : ℕ → Held) where
-  stock-stands : ((k : ℕ) → k < 6 → Fits (g k)) → ((k : ℕ) → t ≤ k → k < 6 → g k ≡ noneHeld) → StockStands t (stockOf g)
-  unfolding countsFit
-  stock-stands m r =
-      let at : (k : ℕ) → k < 6 → heldAt (stockOf g) k ≡ g k = stock-at g in
-      let fit : (k : ℕ) → k < 6 → Fits (heldAt (stockOf g) k) = λ k l. subst Fits (sym (at k l)) (m k l) in
-      record {
-        counts = all-i (λ (k : ℕ). leb (heldAt (stockOf g) k .count) 255) (λ k l. le-leb (heldAt (stockOf g) k .count) 255 (fit k l .1));
-        fits = record {
-          six = refl;
-          fit = λ k l. record { rights-fit = fit k l .0; count-fits = omega (arith, fit k l .1) };
-          rest = λ k u l. at k l ∙ r k u l;
-        };
-      }
+  stock-types : StockStands t h → StockOf t h
+  stock-types p = record { six = p .fits .six; fit = λ k l. (p .fits .fit k l .rights-fit, counts-le h (p .counts) k l); rest = p .fits .rest }
 
 pub nothing-stands : (t : ℕ) → Stands t nothingDone
-unfolding nothingDone idle
-nothing-stands t = effect-stands t (λ k. idle) nothing-normal (λ k l. omega arith) (λ k u l. refl)
-
--- what is done to a type past the t
-then-idle : thenOne idle idle ≡ idle
-unfolding thenOne normalForm idle rightsAfter thenCap sumDrop normDrop less
-then-idle = refl
-
-both-idle : bothOne idle idle ≡ idle
-unfolding bothOne normalForm idle largerDrop rank normDrop
-both-idle = refl
-
-apply-idle : applyOne idle noneHeld ≡ noneHeld
-unfolding applyOne idle rightsAfter countAfter left less
-apply-idle = refl
-
-lower-none : lowerHeld noneHeld noneHeld ≡ noneHeld
-unfolding lowerHeld
-lower-none = refl
+nothing-stands t = stands t nothingDone nothing-normal (nothing-of t)
 
 module _ (t : ℕ) (a b : Effect) (p : Stands t a) (q : Stands t b) where
   pub then-stands : Stands t (thenOf a b)
-  unfolding thenOf thenOne normalForm rightsAfter
-  then-stands =
-      effect-stands t (λ k. thenOne (oneAt a k) (oneAt b k)) (then-normal a b)
-      (λ k l. omega (arith, and-le-r (bitOr (oneAt a k .keepmax) (oneAt b k .keepin)) (oneAt b k .keepmax), q .fits .fit k l .keepmax-fits))
-      (λ k u l. (λ i. thenOne (p .fits .rest k u l i) (q .fits .rest k u l i)) ∙ then-idle)
+  then-stands = stands t (thenOf a b) (then-normal a b) (then-of t a b (types t a p) (types t b q))
 
   pub both-stands : Stands t (bothOf a b)
-  unfolding bothOf bothOne normalForm
-  both-stands =
-      effect-stands t (λ k. bothOne (oneAt a k) (oneAt b k)) (both-normal a b)
-      (λ k l. omega (arith, and-le-r (oneAt a k .keepmax) (oneAt b k .keepmax), q .fits .fit k l .keepmax-fits))
-      (λ k u l. (λ i. bothOne (p .fits .rest k u l i) (q .fits .rest k u l i)) ∙ both-idle)
+  both-stands = stands t (bothOf a b) (both-normal a b) (both-of t a b (types t a p) (types t b q))
 
 pub apply-stands : (t : ℕ) (e : Effect) (h : Stock) → Stands t e → StockStands t h → StockStands t (applyOf e h)
-unfolding applyOf applyOne rightsAfter countAfter
-apply-stands t e h p q =
-    stock-stands t (λ k. applyOne (oneAt e k) (heldAt h k))
-    (λ k l. (omega (arith, and-le-r (bitOr (heldAt h k .rights) (oneAt e k .keepin)) (oneAt e k .keepmax), p .fits .fit k l .keepmax-fits), omega arith))
-    (λ k u l. (λ i. applyOne (p .fits .rest k u l i) (q .fits .rest k u l i)) ∙ apply-idle)
+apply-stands t e h p q = stock-stands t (applyOf e h) (apply-of t e h (types t e p) (stock-types t h q))
 
 pub lower-stands : (t : ℕ) (h g : Stock) → StockStands t h → StockStands t g → StockStands t (lowerOf h g)
-unfolding lowerOf lowerHeld
-lower-stands t h g p q =
-    stock-stands t (λ k. lowerHeld (heldAt h k) (heldAt g k))
-    (λ k l. (omega (arith, and-le-l (heldAt h k .rights) (heldAt g k .rights), p .fits .fit k l .rights-fit), omega (arith, counts-le h (p .counts) k l)))
-    (λ k u l. (λ i. lowerHeld (p .fits .rest k u l i) (q .fits .rest k u l i)) ∙ lower-none)
+lower-stands t h g p q = stock-stands t (lowerOf h g) (lower-of t h g (stock-types t h p) (stock-types t g q))
 
 -- the rounds of a call
 lowest-stands : (t : ℕ) (x : Effect) → Stands t x → (j : ℕ) → Stands t (lowest-rounds permits x j)
@@ -145,22 +97,11 @@ module _ (t : ℕ) (call x : Effect) (c : Stands t call) where
 
 -- the step of a node: a draw or a grant of a type that the file has
 module _ (t j : ℕ) (h : j < t) where
-  only-stands : (x : One) → normalOf (effectOf (λ k. oneIf (eqb k j) x)) ≡ true → x .keepmax < 65536 → Stands t (effectOf (λ k. oneIf (eqb k j) x))
-  unfolding idle
-  only-stands x n m =
-      effect-stands t (λ k. oneIf (eqb k j) x) n (λ k l. keeps (eqb k j)) (λ k u l. simp (ne-eqb k j (λ e. omega arith)))
-    where
-      keeps : (b : Bool) → oneIf b x .keepmax < 65536
-      keeps true = m
-      keeps false = omega arith
-
   draw-stands : Stands t (drawOf j)
-  unfolding drawOf drawn
-  draw-stands = only-stands drawn (draw-normal j) (omega arith)
+  draw-stands = stands t (drawOf j) (draw-normal j) (draw-of t j h)
 
   grant-stands : (p m : ℕ) → p < 65536 → Stands t (grantOf j p m)
-  unfolding grantOf granted normalForm
-  grant-stands p m l = only-stands (granted p m) (grant-normal j p m) l
+  grant-stands p m l = stands t (grantOf j p m) (grant-normal j p m) (grant-of t j h p m l)
 
 module _ (f : List ℕ) (pass : judgeOf f ≡ Pass) where
   pub step-stands : (n : ℕ) → Stands (tablesOf f .types) (stepOf (doesIn f (tablesOf f) n))
@@ -183,7 +124,7 @@ module _ (f : List ℕ) (pass : judgeOf f ≡ Pass) where
 
   pub opening-stands : StockStands (tablesOf f .types) (openingIn f (tablesOf f))
   unfolding openingIn openingRights
-  opening-stands = stock-stands (tablesOf f .types) (openingAt f (tablesOf f)) (λ k l. fit k) (λ k u l. sym (opening-none f (tablesOf f) k u))
+  opening-stands = stock-stands (tablesOf f .types) (openingIn f (tablesOf f)) (stock-of (tablesOf f .types) (openingAt f (tablesOf f)) (λ k l. fit k) (λ k u l. sym (opening-none f (tablesOf f) k u)))
     where
       fit : (k : ℕ) → Fits (openingAt f (tablesOf f) k)
       fit k = elim (decLt k (tablesOf f .types)) [

@@ -15,9 +15,8 @@ use Rattle.answer.specs.declared.Answer.{Answer}
 use Rattle.answer.specs.declared.Answer.the-variants.{Pass, BadSheet, BadBlock, Broken, Overdrawn}
 use Rattle.answer.specs.Number.{numberOf}
 use Rattle.answer.proofs.Unpack.{zero-pass}
-use Rattle.model.specs.Machine.{Overdraws}
 use Rattle.model.specs.Rules.{Obeys}
-use Rattle.model.specs.Stocks.{permits, doing, stepOf}
+use Rattle.model.specs.Stocks.{permits, stepOf}
 use Rattle.model.proofs.Exact.{never-overdraws}
 use Rattle.tables.specs.declared.Tables.{Tables}
 use Rattle.tables.specs.Trailer.{tablesOf}
@@ -34,7 +33,7 @@ use Rattle.rules.specs.Sheet.{shapeOf}
 use Rattle.rules.proofs.Asked.{true-false}
 use Rattle.rules.proofs.Exact.{rules-below, rule-broken, rules-beyond}
 use Rattle.permit.specs.Check.{uncoveredAt, wholeSheet, judgedSheet, checkOf}
-use Rattle.permit.specs.Meaning.{sheet, WellFormed, Holds, IsReached, IsCovered, Checks, refused, wrong-length, ill-formed, broken, overdrawn, accepted}
+use Rattle.permit.specs.Meaning.{sheet, WellFormed, Holds, IsReached, IsCovered, Checks, Safe, refused, wrong-length, ill-formed, broken, overdrawn, accepted}
 use Rattle.permit.proofs.Draws.{uncovered-says, covered-says}
 
 module _ (f s : List ℕ) where
@@ -184,12 +183,12 @@ module _ (f s : List ℕ) where
   accepts = (was-accepted checks, λ a. sym (only (accepted (a .0) (a .1) (a .2))))
 
   -- No graph with an accepted sheet, made by anyone, has a run that overdraws.
-  pub safe : checkOf f s ≡ Pass → (n : ℕ) → Overdraws (graphOf f) (doing (doesIn f t)) (openingIn f t) n → ⊥
+  pub safe : Safe f (checkOf f s)
   safe e = let a = accepts .0 e in never-overdraws (setting f (a .0 .0)) (sheet f s) (a .1) (a .2)
 
-  -- an answer that is the computed one has its meaning too
-  pub both-ensured : {r : Answer} → r ≡ checkOf f s → (r ≡ checkOf f s) × Checks f s r
-  both-ensured e = (e, subst (Checks f s) (sym e) checks)
+  -- an answer that is the computed one has its meaning too, and what it accepts is safe
+  pub all-ensured : {r : Answer} → r ≡ checkOf f s → (r ≡ checkOf f s) × (Checks f s r × Safe f r)
+  all-ensured e = (e, (subst (Checks f s) (sym e) checks, λ p. safe (sym e ∙ p)))
 
 -- the sheet of a file that passes is within the limits
 pub within : (f : List ℕ) → judgeOf f ≡ Pass → Within (shapeOf (tablesOf f))

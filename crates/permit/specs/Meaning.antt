@@ -7,6 +7,7 @@ use mathlib.Core.List.{List}
 use lib.ListN.{length}
 use Rattle.answer.specs.declared.Answer.{Answer}
 use Rattle.answer.specs.declared.Answer.the-variants.{Pass, BadSheet, BadBlock, Broken, Overdrawn}
+use Rattle.model.specs.Machine.{Overdraws}
 use Rattle.model.specs.Rules.{Sheet, Rule, Reached, stock-at}
 use Rattle.model.specs.Stocks.{permits, doing, stepOf}
 use Rattle.tables.specs.Trailer.{tablesOf}
@@ -54,3 +55,7 @@ module _ (f s : List ℕ) where
     overdrawn : WellFormed → ((r : ℕ) → Holds r) → (n : ℕ) → IsReached n → (IsCovered n → ⊥) → ((m : ℕ) → m < n → IsReached m → IsCovered m) → Checks (Overdrawn n)
     -- 0: accepted
     accepted : WellFormed → ((r : ℕ) → Holds r) → ((n : ℕ) → IsReached n → IsCovered n) → Checks Pass
+
+-- No graph with an accepted sheet, made by anyone, has a run that overdraws.
+abbrev pub Safe : List ℕ → Answer → Type 0
+Safe f a = a ≡ Pass → (n : ℕ) → Overdraws (graphOf f) (doing (doesIn f (tablesOf f))) (openingIn f (tablesOf f)) n → ⊥

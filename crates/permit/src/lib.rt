@@ -10,7 +10,7 @@ ghost use Rattle.graph.specs.Judge.{judgeIn};
 ghost use Rattle.layout.specs.Layout.{Within};
 ghost use Rattle.rules.specs.Sheet.{shapeOf};
 ghost use Rattle.permit.specs.Check.{uncoveredAt, verdictOf, judgedSheet, wholeSheet, checkOf};
-ghost use Rattle.permit.specs.Meaning.{Checks};
+ghost use Rattle.permit.specs.Meaning.{Checks, Safe};
 
 // Node n is a draw, the sheet calls it reached, and its stock there does not cover it. Judged before the node's own step.
 fn uncovered(f: &[u8], t: Tables, x: Shape, s: &[u8], n: usize) -> bool
@@ -101,6 +101,7 @@ pub fn shape(t: Tables) -> Shape
 pub fn check(f: &[u8], s: &[u8]) -> Answer
     ensures equals { λ r. ⌜ r ≡ checkOf (now (f .entry)) (now (s .entry)) ⌝ }
     ensures means { λ r. ⌜ Checks (now (f .entry)) (now (s .entry)) r ⌝ }
+    ensures safe { λ r. ⌜ Safe (now (f .entry)) r ⌝ }
 {
     let a = graph::judge(f);
     if answer::number(a) == 0 {

@@ -5,23 +5,20 @@ use mathlib.Core.Bool.{Bool, true, false}
 use mathlib.Core.List.{List}
 use mathlib.Core.Logic.{_⊎_, ⊎-elim}
 use lib.ListN.{length, replicate, length-replicate, getD-replicate}
-use lib.Dec.{leb, ltb, eqb}
-use lib.Bits.{bitAnd, and-le-r}
-use borrow.Author.Tests.{ltb-true, ltb-false, le-ltb, leb-true, eqb-true, ne-eqb}
+use lib.Dec.{ltb}
+use borrow.Author.Tests.{ltb-true, ltb-false, le-ltb, ne-eqb}
 use native.Mathlib.Omega.{arith}
 use Rattle.words.specs.Bytes.{byteAt, wordAt}
 use Rattle.words.proofs.Read.{byte-past, word-lt}
 use Rattle.layout.specs.Layout.{stockSize, effectSize}
 use Rattle.single.specs.declared.Held.{Held}
 use Rattle.single.specs.declared.One.{One}
-use Rattle.single.specs.Number.{normDrop, within}
 use Rattle.single.specs.Single.{idle, normalOne}
 use Rattle.effect.specs.declared.Stock.{Stock}
 use Rattle.effect.specs.declared.Effect.{Effect}
 use Rattle.effect.specs.Six.{heldAt, oneAt, heldIf, noneHeld}
 use Rattle.effect.specs.Whole.{oneIf}
-use Rattle.words.proofs.Tests.{and-l, and-r}
-use Rattle.effect.proofs.Order.{norm-le}
+use Rattle.effect.proofs.Types.{normal-small, idle-small}
 use Rattle.effect.proofs.Six.{stock-at, effect-at, SixHeld, SixOnes}
 use Rattle.sheet.specs.Read.{sheetWord, markAt, heldWords, oneWords, stockAt, effectAt}
 use Rattle.sheet.specs.Write.{splice, bytesOf, heldField, oneField, stockWord, effectWord, stockBytes, effectBytes, blanked}
@@ -57,18 +54,9 @@ pub record EffectFits (t : ℕ) (e : Effect) : Type 0 where
 
 -- what a normal effect does to a type fits, where its rights do
 pub normal-fits : (x : One) → normalOne x ≡ true → x .keepmax < 65536 → OneFits x
-unfolding normalOne within
 normal-fits x h m =
-    let i = eqb-true (bitAnd (x .keepin) (x .keepmax)) (x .keepin) (and-l _ _ h) in
-    let r = and-r (eqb (bitAnd (x .keepin) (x .keepmax)) (x .keepin)) _ h in
-    let c = leb-true (x .cap) 255 (and-l _ _ r) in
-    let d = eqb-true (normDrop (x .cap) (x .drop)) (x .drop) (and-r (leb (x .cap) 255) _ r) in
-    record {
-      keepin-fits = omega (arith, and-le-r (x .keepin) (x .keepmax));
-      keepmax-fits = m;
-      cap-fits = omega arith;
-      drop-fits = omega (arith, norm-le (x .cap) (x .drop));
-    }
+    let small = normal-small x h m in
+    record { keepin-fits = small .0; keepmax-fits = m; cap-fits = small .1; drop-fits = small .2 }
 
 -- what is read of each type, and that it fits
 module _ (s : List ℕ) (t w : ℕ) where
@@ -85,7 +73,6 @@ module _ (s : List ℕ) (t w : ℕ) where
   held-fits v false = record { rights-fit = omega arith; count-fits = omega arith }
 
   one-fits : (v : ℕ) (b : Bool) → OneFits (oneIf b (oneWords s v))
-  unfolding idle
   one-fits v true =
       record {
         keepin-fits = word-lt s (2 * v);
@@ -93,7 +80,7 @@ module _ (s : List ℕ) (t w : ℕ) where
         cap-fits = word-lt s (2 * (v + 2));
         drop-fits = word-lt s (2 * (v + 3));
       }
-  one-fits v false = record { keepin-fits = omega arith; keepmax-fits = omega arith; cap-fits = omega arith; drop-fits = omega arith }
+  one-fits v false = record { keepin-fits = idle-small .0; keepmax-fits = idle-small .1; cap-fits = idle-small .2; drop-fits = idle-small .3 }
 
   pub stock-read : StockFits t (stockAt s t w)
   unfolding stockAt

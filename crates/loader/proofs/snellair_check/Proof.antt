@@ -8,7 +8,7 @@ returns : tie.Need-returns
 returns c =
     let check = c .before in (
       c .packed .ensures ∙ ap packedOf (check .check .ensures .0),
-      record { answer = check .check .result; checks = check .check .ensures .1; packed = c .packed .ensures },
+      record { answer = check .check .result; checks = check .check .ensures .1 .0; safe = check .check .ensures .1 .1; packed = c .packed .ensures },
     )
 
 pub snellair-check-spec : {M : Type 1} → statement M

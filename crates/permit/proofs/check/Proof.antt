@@ -8,7 +8,7 @@ use Rattle.answer.proofs.Unpack.{zero-pass}
 use Rattle.graph.specs.Judge.{judgeOf, judgeIn}
 use Rattle.rules.specs.Sheet.{shapeOf}
 use Rattle.permit.specs.Check.{judgedSheet, checkOf}
-use Rattle.permit.proofs.Meaning.{both-ensured, within}
+use Rattle.permit.proofs.Meaning.{all-ensured, within}
 use Rattle.permit.proofs.check.Statement.{statement}
 use Rattle.permit.proofs.check.Tie as tie
 
@@ -33,7 +33,7 @@ returns c =
     let judge = number .before in
     let a = judge .before .before .before .args in
     let n : numberOf (judgeOf (now (a .f))) ≡ 0 = ap numberOf (sym (judge .judge .ensures)) ∙ sym (number .number .ensures) ∙ read .before .if1 .taken in
-    both-ensured (now (a .f)) (now (a .s))
+    all-ensured (now (a .f)) (now (a .s))
     (c .of-judged .ensures
     ∙ (λ i. judgedSheet (now (a .f)) (read .read .ensures i) ((shape .shape .ensures ∙ ap shapeOf (read .read .ensures)) i) (now (a .s)))
     ∙ simp (eq-eqb _ _ n))
@@ -45,7 +45,7 @@ returns-2 c =
     let judge = number .before in
     let a = judge .before .before .before .args in
     let n : numberOf (judgeOf (now (a .f))) ≡ 0 → ⊥ = λ e. c .if1 .left (number .number .ensures ∙ ap numberOf (judge .judge .ensures) ∙ e) in
-    both-ensured (now (a .f)) (now (a .s)) (judge .judge .ensures ∙ simp (ne-eqb _ _ n))
+    all-ensured (now (a .f)) (now (a .s)) (judge .judge .ensures ∙ simp (ne-eqb _ _ n))
 
 pub check-spec : {M : Type 1} → statement M
 check-spec =
