@@ -8,28 +8,23 @@ use Rattle.words.specs.Lowest.{lowest}
 use Rattle.answer.specs.declared.Answer.{Answer}
 use Rattle.answer.specs.declared.Answer.the-variants.{Pass, BadSheet, BadBlock, Broken, Overdrawn}
 use Rattle.answer.specs.Number.{numberOf}
-use Rattle.effect.specs.Whole.{applyOf, coversOf}
+use Rattle.effect.specs.Whole.{coversOf}
 use Rattle.tables.specs.declared.Tables.{Tables}
 use Rattle.tables.specs.Trailer.{tablesOf}
 use Rattle.tables.specs.Kinds.{drawKind}
-use Rattle.tables.specs.Fields.{nodeMethod, nodeKind, nodeNumber, nodeRights}
+use Rattle.tables.specs.Fields.{nodeKind, nodeNumber, nodeRights}
 use Rattle.graph.specs.Judge.{judgeOf}
 use Rattle.layout.specs.declared.Shape.{Shape}
-use Rattle.layout.specs.Layout.{methodAt, nodeAt, blockCount, blockAt, sheetBytes}
-use Rattle.sheet.specs.Read.{stockAt, effectAt}
+use Rattle.layout.specs.Layout.{blockCount, blockAt, sheetBytes}
 use Rattle.formed.specs.Ill.{firstIll}
-use Rattle.demand.specs.Demand.{marked}
 use Rattle.rules.specs.Broken.{brokenOf}
 use Rattle.rules.specs.Sheet.{shapeOf}
+use Rattle.listing.specs.Node.{isReached, nodeStock}
 
 -- node n is a draw that is reached and not covered
 unfoldable pub uncoveredAt : List ℕ → Tables → Shape → List ℕ → ℕ → Bool
 uncoveredAt f t x s n =
-    eqb (nodeKind f t n) drawKind
-    && ((marked s (nodeAt x n) && marked s (methodAt x (nodeMethod f t n)))
-    && not
-    (coversOf (applyOf (effectAt s (x .types) (nodeAt x n)) (stockAt s (x .types) (methodAt x (nodeMethod f t n)))) (nodeNumber f t n)
-    (nodeRights f t n)))
+    eqb (nodeKind f t n) drawKind && (isReached f t x s n && not (coversOf (nodeStock f t x s n) (nodeNumber f t n) (nodeRights f t n)))
 
 -- 13 overdrawn, 0 pass
 abbrev pub verdictOf : List ℕ → Tables → Shape → List ℕ → Answer

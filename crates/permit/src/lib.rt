@@ -20,10 +20,8 @@ fn uncovered(f: &[u8], t: Tables, x: Shape, s: &[u8], n: usize) -> bool
     if tables::node_kind(f, t, n) != tables::DRAW {
         return false;
     }
-    let w = layout::node_at(x, n);
-    let v = layout::method_at(x, tables::node_method(f, t, n));
-    if demand::is_marked(s, w) & demand::is_marked(s, v) {
-        let held = effect::apply(sheet::effect(s, x.types, w), sheet::stock(s, x.types, v));
+    if listing::reached(f, t, x, s, n) {
+        let held = listing::stock(f, t, x, s, n);
         let number = tables::node_number(f, t, n);
         let rights = tables::node_rights(f, t, n);
         return !effect::covers(held, number, rights as u16);

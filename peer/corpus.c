@@ -1,0 +1,61 @@
+/* What crates/work_corpus prints, by the peer: for each file named, the name,
+ * the answer's number and place; after a verdict each marked block of the
+ * sheet, by its first word's number and then its words. */
+#include "format.h"
+#include "peer.h"
+#include "sheet.h"
+
+#include <stdio.h>
+
+/* Of a file that is not refused. */
+static struct shape shape_of(const uint8_t *graph, size_t length)
+{
+    const uint8_t *trailer = graph + length - TRAILER_BYTES;
+    return (struct shape){read_word(trailer + 2 * METHODS),
+                          read_word(trailer + 2 * NODES),
+                          read_word(trailer + 2 * OPENING)};
+}
+
+static void print_block(struct shape s, const uint8_t *sheet, unsigned block)
+{
+    unsigned first = block_at(s, block);
+    unsigned words = 1 + block_words(s, block);
+    if (read_word(sheet + 2 * (size_t)first) == 0)
+        return;
+    printf("%u", first);
+    for (unsigned w = first; w < first + words; w++)
+        printf(" %u", read_word(sheet + 2 * (size_t)w));
+    putchar('\n');
+}
+
+static void print_file(const char *name, const uint8_t *graph, size_t length)
+{
+    static uint8_t sheet[MOST_SHEET_BYTES];
+    struct shape s = {0, 0, 0};
+    /* An answer from 1 to 9 stands whatever the sheet's length is. */
+    uint64_t answer = peer_work_out(graph, length, sheet, 0);
+    if (answer == 10) {
+        s = shape_of(graph, length);
+        answer = peer_work_out(graph, length, sheet, sheet_bytes(s));
+    }
+    printf("%s %u %u\n", name, (unsigned)(answer % 65536),
+           (unsigned)(answer / 65536));
+    for (unsigned block = 0; block < block_count(s); block++)
+        print_block(s, sheet, block);
+}
+
+int main(int argc, char **argv)
+{
+    static uint8_t graph[65536];
+    for (int i = 1; i < argc; i++) {
+        FILE *file = fopen(argv[i], "rb");
+        if (file == NULL) {
+            perror(argv[i]);
+            return 1;
+        }
+        size_t length = fread(graph, 1, sizeof graph, file);
+        fclose(file);
+        print_file(argv[i], graph, length);
+    }
+    return 0;
+}
