@@ -4,6 +4,7 @@
 #include "snellair.h"
 
 #include <stdio.h>
+#include <stdlib.h>
 
 /* What an answer says, and what its place counts; NULL where there is none. */
 static const struct {
@@ -31,15 +32,15 @@ static const struct {
 static uint8_t graph[SNELLAIR_LONGEST_GRAPH + 1];
 static uint8_t sheet[SNELLAIR_LONGEST_SHEET + 1];
 
-/* How many bytes were read, at most `room`. */
+/* Reads at most `room` bytes; ends the program where a file can't be read. */
 static size_t read_file(const char *path, uint8_t *bytes, size_t room)
 {
     FILE *file = fopen(path, "rb");
-    if (file == NULL) {
+    size_t length = file == NULL ? 0 : fread(bytes, 1, room, file);
+    if (file == NULL || ferror(file)) {
         perror(path);
-        return 0;
+        exit(66);
     }
-    size_t length = fread(bytes, 1, room, file);
     fclose(file);
     return length;
 }

@@ -17,14 +17,15 @@
 extern "C" {
 #endif
 
-/* Works out the permission sheet of a graph. After the verdicts SNELLAIR_PASS
- * and SNELLAIR_OVERDRAWN all of the sheet is written; after a refusal (1 to
- * 10) it is byte for byte as it was. */
+/* Works out the permission sheet of a graph. The sheet's length is exactly
+ * SNELLAIR_SHEET_BYTES of the graph's counts; any other is answered 10. After
+ * the verdicts SNELLAIR_PASS and SNELLAIR_OVERDRAWN all of the sheet is
+ * written; after a refusal (1 to 10) it is byte for byte as it was. */
 uint64_t snellair_work_out(const uint8_t *graph, size_t graph_len,
                            uint8_t *sheet, size_t sheet_len);
 
-/* Checks a sheet, whoever made it, against a graph. Both are only read. A
- * graph for which this answers SNELLAIR_PASS has no run that overdraws. */
+/* Checks a sheet, whoever made it, against a graph. Both are only read, and
+ * the sheet's length is as above. A graph for which this answers SNELLAIR_PASS has no run that overdraws. */
 uint64_t snellair_check(const uint8_t *graph, size_t graph_len,
                         const uint8_t *sheet, size_t sheet_len);
 
@@ -50,7 +51,7 @@ enum snellair_number {
     SNELLAIR_BAD_SHEET = 10,   /* 0: the sheet's length */
     SNELLAIR_BAD_BLOCK = 11,   /* first word of the lowest ill-formed block */
     SNELLAIR_BROKEN_RULE = 12, /* lowest sheet rule that is broken, 1 to 10 */
-    SNELLAIR_OVERDRAWN = 13    /* lowest node whose draw is not covered */
+    SNELLAIR_OVERDRAWN = 13    /* lowest reached node not covered */
 };
 
 /* The limits: most methods, nodes and types; the longest graph file and the
