@@ -19,14 +19,21 @@ fn next(low: Effect, x: Effect) -> Effect
     effect::both(x, effect::then(low, x))
 }
 
-// The lowest of x taken 1 to 1 + j times.
+// The lowest of x taken 1 to 1 + j times. A round that loses nothing is followed by none that does, so the loop is left after it; that
+// is looked for after 1, 2, 4, 8, .. rounds, since looking costs half a round.
 fn lowest(x: Effect, j: usize) -> Effect
     ensures { λ r. ⌜ r ≡ lowest-rounds permits x j ⌝ }
 {
     let mut low = x;
     let mut i = 0;
     while i < j {
-        low = next(low, x);
+        let lower = next(low, x);
+        if i & (i + 1) == 0 {
+            if effect::at_most(low, lower) {
+                return lower;
+            }
+        }
+        low = lower;
         i += 1;
     }
     low
