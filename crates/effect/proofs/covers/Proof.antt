@@ -7,7 +7,7 @@ use Rattle.effect.proofs.covers.Tie as tie
 
 returns : tie.Need-returns
 unfolding coversOf
-returns c = simp (lt-ltb (c .before .before .before .args .t) 6 (omega arith)) (cc)
+returns c = simp (lt-ltb (c .before .before .before .args .t) 6 (omega arith), c .before .held-at .ensures, c .covers .ensures)
 
 returns-2 : tie.Need-returns-2
 unfolding coversOf

@@ -5,7 +5,7 @@ use Rattle.effect.proofs.draw.Tie as tie
 
 returns : tie.Need-returns
 unfolding drawOf
-returns c = cc
+returns c = simp (c .before .draw .ensures, c .only .ensures)
 
 pub draw-spec : {M : Type 1} → statement M
 draw-spec = tie.close (tie.spec (λ c κs. search needs) (λ c κs. search needs) returns)

@@ -1,4 +1,4 @@
-use mathlib.Core.Path.{_≡_, sym, _∙_}
+use mathlib.Core.Path.{_≡_, ap, sym, _∙_}
 use denote.Ref.{now}
 use borrow.Author.Tests.{eq-eqb, ne-eqb}
 use Rattle.layout.specs.Layout.{blockAt}
@@ -8,29 +8,32 @@ use borrow.Author.Needs.{needs}
 use Rattle.formed.proofs.block_ill.Statement.{statement}
 use Rattle.formed.proofs.block_ill.Tie as tie
 
+mark-is : (c : tie.After-mark) → let a = c .before .before .before .args in c .mark .result ≡ markAt (now (a .s)) (blockAt (a .x) (a .b))
+mark-is c = c .mark .ensures ∙ ap (markAt _) (c .before .block-at .ensures .0)
+
 returns : tie.Need-returns
 unfolding illBlock
 returns c =
     let l = c .before .before .before in
-    let a = l .before .before .before .args in
-    let m : l .mark .result ≡ markAt (now (a .s)) (blockAt (a .x) (a .b)) = cc in
-    rw (eq-eqb _ _ (sym m ∙ c .before .before .if1 .taken)) (cc)
+    simp (eq-eqb _ _ (sym (mark-is l) ∙ c .before .before .if1 .taken), l .before .block-at .ensures .0, c .before .block-size .ensures .0, c .some-word .ensures)
 
 returns-2 : tie.Need-returns-2
 unfolding illBlock
 returns-2 c =
     let l = c .before .before .before .before in
-    let a = l .before .before .before .args in
-    let m : l .mark .result ≡ markAt (now (a .s)) (blockAt (a .x) (a .b)) = cc in
-    rw (ne-eqb _ _ (λ e. c .before .before .before .if1 .left (m ∙ e)), eq-eqb _ _ (sym m ∙ c .before .before .if2 .taken)) (cc)
+    simp (
+      ne-eqb _ _ (λ e. c .before .before .before .if1 .left (mark-is l ∙ e)),
+      eq-eqb _ _ (sym (mark-is l) ∙ c .before .before .if2 .taken),
+      l .before .block-at .ensures .0,
+      c .before .is-stock .ensures,
+      c .content-fits .ensures,
+    )
 
 returns-3 : tie.Need-returns-3
 unfolding illBlock
 returns-3 c =
     let l = c .before .before in
-    let a = l .before .before .before .args in
-    let m : l .mark .result ≡ markAt (now (a .s)) (blockAt (a .x) (a .b)) = cc in
-    rw (ne-eqb _ _ (λ e. c .before .if1 .left (m ∙ e)), ne-eqb _ _ (λ e. c .if2 .left (m ∙ e)))
+    rw (ne-eqb _ _ (λ e. c .before .if1 .left (mark-is l ∙ e)), ne-eqb _ _ (λ e. c .if2 .left (mark-is l ∙ e)))
 
 pub block-ill-spec : {M : Type 1} → statement M
 block-ill-spec =

@@ -3,10 +3,10 @@ use Rattle.formed.proofs.content_fits.Statement.{statement}
 use Rattle.formed.proofs.content_fits.Tie as tie
 
 returns : tie.Need-returns
-returns c = rw (c .before .before .if1 .taken) (cc)
+returns c = simp (c .before .before .if1 .taken, c .before .stock .ensures, c .counts-fit .ensures)
 
 returns-2 : tie.Need-returns-2
-returns-2 c = rw (c .before .before .if1 .left) (cc)
+returns-2 c = simp (c .before .before .if1 .left, c .before .effect .ensures, c .normal .ensures)
 
 pub content-fits-spec : {M : Type 1} → statement M
 content-fits-spec =

@@ -5,7 +5,13 @@ use Rattle.refuse.proofs.call_bad.Tie as tie
 
 returns : tie.Need-returns
 unfolding callBad
-returns c = cc
+returns c =
+    simp (
+      c .before .before .before .call-node .ensures .0,
+      c .before .before .call-method .ensures .0,
+      c .before .node-kind .ensures .0,
+      c .call-not-above .ensures,
+    )
 
 pub call-bad-spec : {M : Type 1} → statement M
 call-bad-spec =

@@ -10,7 +10,16 @@ returns c = simp (eq-eqb _ _ (c .if1 .taken))
 
 returns-2 : tie.Need-returns-2
 unfolding above notAbove callRow
-returns-2 c = simp (ne-eqb _ _ (c .before .before .before .before .before .before .if1 .left)) (cc)
+returns-2 c =
+    simp (
+      ne-eqb _ _ (c .before .before .before .before .before .before .if1 .left),
+      c .before .before .before .before .before .call-method .ensures .0,
+      c .before .before .before .before .call-method2 .ensures .0,
+      c .before .before .before .above .ensures,
+      c .before .before .call-node .ensures .0,
+      c .before .call-node2 .ensures .0,
+      c .above2 .ensures,
+    )
 
 pub call-not-above-spec : {M : Type 1} → statement M
 call-not-above-spec =

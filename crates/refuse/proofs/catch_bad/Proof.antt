@@ -5,7 +5,18 @@ use Rattle.refuse.proofs.catch_bad.Tie as tie
 
 returns : tie.Need-returns
 unfolding catchBad
-returns c = cc
+returns c =
+    simp (
+      c .before .before .before .before .before .before .before .before .catch-from .ensures .0,
+      c .before .before .before .before .before .before .before .catch-exception .ensures .0,
+      c .before .before .before .before .before .before .catch-to .ensures .0,
+      c .before .before .before .before .before .node-kind .ensures .0,
+      c .before .before .before .before .node-number .ensures .0,
+      c .before .before .before .throws-other .ensures,
+      c .before .before .node-method .ensures .0,
+      c .before .node-method2 .ensures .0,
+      c .catch-not-above .ensures,
+    )
 
 pub catch-bad-spec : {M : Type 1} → statement M
 catch-bad-spec =

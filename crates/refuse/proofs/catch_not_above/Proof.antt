@@ -10,7 +10,19 @@ returns c = simp (eq-eqb _ _ (c .if1 .taken))
 
 returns-2 : tie.Need-returns-2
 unfolding above notAbove catchRow
-returns-2 c = simp (ne-eqb _ _ (c .before .before .before .before .before .before .before .before .before .if1 .left)) (cc)
+returns-2 c =
+    simp (
+      ne-eqb _ _ (c .before .before .before .before .before .before .before .before .before .if1 .left),
+      c .before .before .before .before .before .before .before .before .catch-to .ensures .0,
+      c .before .before .before .before .before .before .before .catch-to2 .ensures .0,
+      c .before .before .before .before .before .before .above .ensures,
+      c .before .before .before .before .before .catch-exception .ensures .0,
+      c .before .before .before .before .catch-exception2 .ensures .0,
+      c .before .before .before .above2 .ensures,
+      c .before .before .catch-from .ensures .0,
+      c .before .catch-from2 .ensures .0,
+      c .above3 .ensures,
+    )
 
 pub catch-not-above-spec : {M : Type 1} → statement M
 catch-not-above-spec =

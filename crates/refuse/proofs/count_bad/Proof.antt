@@ -5,7 +5,7 @@ use Rattle.refuse.proofs.count_bad.Tie as tie
 
 returns : tie.Need-returns
 unfolding countBad
-returns c = cc
+returns c = simp (c .trailer-word .ensures .0)
 
 pub count-bad-spec : {M : Type 1} → statement M
 count-bad-spec =

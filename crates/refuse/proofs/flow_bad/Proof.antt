@@ -5,7 +5,15 @@ use Rattle.refuse.proofs.flow_bad.Tie as tie
 
 returns : tie.Need-returns
 unfolding flowBad
-returns c = cc
+returns c =
+    simp (
+      c .before .before .before .before .before .flow-from .ensures .0,
+      c .before .before .before .before .flow-to .ensures .0,
+      c .before .before .before .node-kind .ensures .0,
+      c .before .before .node-method .ensures .0,
+      c .before .node-method2 .ensures .0,
+      c .flow-not-above .ensures,
+    )
 
 pub flow-bad-spec : {M : Type 1} → statement M
 flow-bad-spec =

@@ -10,7 +10,16 @@ returns c = simp (eq-eqb _ _ (c .if1 .taken))
 
 returns-2 : tie.Need-returns-2
 unfolding above notAbove flowRow
-returns-2 c = simp (ne-eqb _ _ (c .before .before .before .before .before .before .if1 .left)) (cc)
+returns-2 c =
+    simp (
+      ne-eqb _ _ (c .before .before .before .before .before .before .if1 .left),
+      c .before .before .before .before .before .flow-to .ensures .0,
+      c .before .before .before .before .flow-to2 .ensures .0,
+      c .before .before .before .above .ensures,
+      c .before .before .flow-from .ensures .0,
+      c .before .flow-from2 .ensures .0,
+      c .above2 .ensures,
+    )
 
 pub flow-not-above-spec : {M : Type 1} → statement M
 flow-not-above-spec =

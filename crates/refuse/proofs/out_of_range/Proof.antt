@@ -1,3 +1,4 @@
+use mathlib.Core.Path.{refl}
 use Rattle.refuse.specs.Bad.{outOfRange}
 use borrow.Author.Needs.{needs}
 use Rattle.refuse.proofs.out_of_range.Statement.{statement}
@@ -5,7 +6,7 @@ use Rattle.refuse.proofs.out_of_range.Tie as tie
 
 returns : tie.Need-returns
 unfolding outOfRange
-returns c = cc
+returns c = refl
 
 pub out-of-range-spec : {M : Type 1} → statement M
 out-of-range-spec = tie.close (tie.spec (λ c. search needs) (λ c. search needs) returns)

@@ -1,10 +1,11 @@
+use mathlib.Core.Path.{refl}
 use Rattle.refuse.specs.Bad.{unusedSet}
 use Rattle.refuse.proofs.unused_set.Statement.{statement}
 use Rattle.refuse.proofs.unused_set.Tie as tie
 
 returns : tie.Need-returns
 unfolding unusedSet
-returns c = cc
+returns c = refl
 
 pub unused-set-spec : {M : Type 1} → statement M
 unused-set-spec = tie.close (tie.spec returns)

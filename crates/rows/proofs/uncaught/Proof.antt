@@ -11,7 +11,8 @@ returns c =
     let b = c .before .before .before .before .before .before in
     let a = b .args in
     let i = c .before .before .before .before .first-row .ensures .0 in
-    rw (← at-first (now (a .f)) (a .t) (a .n) (a .e) (b .pre .0) (b .pre .2) (rw (← i) (search needs))) (cc)
+    simp (i, c .before .catch-from .ensures .0, c .catch-exception .ensures .0)
+    (at-first (now (a .f)) (a .t) (a .n) (a .e) (b .pre .0) (b .pre .2) (rw (← i) (search needs)))
 
 returns-2 : tie.Need-returns-2
 returns-2 c =

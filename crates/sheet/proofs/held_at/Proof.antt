@@ -4,7 +4,7 @@ use Rattle.sheet.proofs.held_at.Statement.{statement}
 use Rattle.sheet.proofs.held_at.Tie as tie
 
 returns : tie.Need-returns
-returns c = rw (lt-ltb _ _ (c .before .before .if1 .taken)) (cc)
+returns c = simp (lt-ltb _ _ (c .before .before .if1 .taken), c .before .word .ensures, c .word2 .ensures)
 
 returns-2 : tie.Need-returns-2
 returns-2 c = rw (le-ltb _ _ (c .if1 .left))

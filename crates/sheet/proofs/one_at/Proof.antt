@@ -4,7 +4,14 @@ use Rattle.sheet.proofs.one_at.Statement.{statement}
 use Rattle.sheet.proofs.one_at.Tie as tie
 
 returns : tie.Need-returns
-returns c = rw (lt-ltb _ _ (c .before .before .before .before .if1 .taken)) (cc)
+returns c =
+    simp (
+      lt-ltb _ _ (c .before .before .before .before .if1 .taken),
+      c .before .before .before .word .ensures,
+      c .before .before .word2 .ensures,
+      c .before .word3 .ensures,
+      c .word4 .ensures,
+    )
 
 returns-2 : tie.Need-returns-2
 returns-2 c = rw (le-ltb _ _ (c .before .if1 .left)) (c .nothing-done .ensures)

@@ -5,7 +5,7 @@ use Rattle.single.proofs.at_most.Tie as tie
 
 returns : tie.Need-returns
 unfolding atMostOne
-returns c = cc
+returns c = simp (c .before .before .within-of .ensures, c .before .within-of2 .ensures, c .count-at-most .ensures)
 
 pub at-most-spec : {M : Type 1} → statement M
 at-most-spec = tie.close (tie.spec (λ c κs. search needs) (λ c κs. search needs) (λ c κs. search needs) returns)

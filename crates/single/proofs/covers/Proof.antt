@@ -5,7 +5,7 @@ use Rattle.single.proofs.covers.Tie as tie
 
 returns : tie.Need-returns
 unfolding coversHeld
-returns c = cc
+returns c = simp (c .before .within-of .ensures)
 
 pub covers-spec : {M : Type 1} → statement M
 covers-spec = tie.close (tie.spec (λ c κs. search needs) returns)

@@ -5,7 +5,7 @@ use Rattle.single.proofs.lower.Tie as tie
 
 returns : tie.Need-returns
 unfolding lowerHeld
-returns c = cc
+returns c = simp (c .smaller .ensures)
 
 pub lower-spec : {M : Type 1} → statement M
 lower-spec = tie.close (tie.spec (λ c κs. search needs) returns)

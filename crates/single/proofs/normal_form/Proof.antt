@@ -5,7 +5,7 @@ use Rattle.single.proofs.normal_form.Tie as tie
 
 returns : tie.Need-returns
 unfolding normalForm
-returns c = cc
+returns c = simp (c .before .smaller .ensures, c .norm-drop .ensures)
 
 pub normal-form-spec : {M : Type 1} → statement M
 normal-form-spec = tie.close (tie.spec (λ c κs. search needs) (λ c κs. search needs) returns)

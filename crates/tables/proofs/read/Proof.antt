@@ -5,7 +5,15 @@ use Rattle.tables.proofs.read.Tie as tie
 
 returns : tie.Need-returns
 unfolding tablesOf
-returns c = cc
+returns c =
+    simp (
+      c .before .before .before .before .before .trailer-word .ensures .0,
+      c .before .before .before .before .trailer-word2 .ensures .0,
+      c .before .before .before .trailer-word3 .ensures .0,
+      c .before .before .trailer-word4 .ensures .0,
+      c .before .trailer-word5 .ensures .0,
+      c .trailer-word6 .ensures .0,
+    )
 
 pub read-spec : {M : Type 1} → statement M
 read-spec =

@@ -5,7 +5,7 @@ use Rattle.tables.proofs.trailer_word.Tie as tie
 
 returns : tie.Need-returns
 unfolding trailer
-returns c = (cc, search needs)
+returns c = (simp (c .before .trailer-at .ensures .0, c .word .ensures .0), search needs)
 
 pub trailer-word-spec : {M : Type 1} → statement M
 trailer-word-spec =
