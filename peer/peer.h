@@ -1,6 +1,7 @@
-/* An independent peer of Snellair: written from document 01, with the packed
- * answer and the order of a block's words as in docs/FORMAT.md, and without a
- * look at Snellair's code. Each operation answers number + 65,536 * place. */
+/* An independent peer of Snellair: written from document 01 and the readings
+ * of it that docs/DECISIONS.md keeps, with the packed answer and the order of
+ * a block's words as in docs/FORMAT.md, and without a look at Snellair's code.
+ * Each operation answers number + 65,536 * place. */
 #ifndef PEER_H
 #define PEER_H
 
