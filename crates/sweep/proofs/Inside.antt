@@ -23,7 +23,7 @@ use Rattle.rules.specs.Tests.{targetOf}
 use Rattle.sweep.specs.Ready.{Ready, leadsCount}
 
 module _ {f : List ℕ} {t : Tables} {x : Shape} {s : List ℕ} (r : Ready f t x s) where
-  limit : Limits t
+  pub limit : Limits t
   limit = subst Limits (sym (r .own)) (limits f (subst (λ y. judgeIn f y ≡ Pass) (r .own) (r .passed)))
 
   as-many-nodes : x .nodes ≡ t .nodes
@@ -49,7 +49,7 @@ module _ {f : List ℕ} {t : Tables} {x : Shape} {s : List ℕ} (r : Ready f t x
       let h : m < x .methods = omega (arith, as-many-methods) in
       block-inside (10 * m + 1 + e) (exitAt x m e) (effectSize (x .types)) (omega arith) (block-exit x m h e k) (exit-size x m h e k)
 
-  -- a table has few rows
+  -- a table has few rows, and so has each source
   pub few-rows : (table : Leads) (j : ℕ) → j ≤ leadsCount t table → j < 65536
   few-rows leads.Flow j l = omega (arith, limit .flows)
   few-rows leads.Catches j l = omega (arith, limit .catches)
@@ -61,15 +61,6 @@ module _ {f : List ℕ} {t : Tables} {x : Shape} {s : List ℕ} (r : Ready f t x
   few-all Catches k l = omega (arith, limit .catches)
   few-all Nodes k l = omega (arith, limit .nodes)
   few-all Calls k l = omega (arith, limit .calls)
-
-  pub few-calls : (k : ℕ) → k < t .calls → k < 65536
-  few-calls k l = omega (arith, limit .calls)
-
-  pub few-nodes : t .nodes ≤ 512
-  few-nodes = limit .nodes
-
-  pub some-method : 0 < t .methods
-  some-method = limit .some-method
 
   -- a file that passes leads to its own nodes and methods
   pub leads-inside : (table : Leads) (j : ℕ) → j < leadsCount t table → targetOf f t table j < t .nodes

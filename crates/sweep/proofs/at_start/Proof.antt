@@ -3,7 +3,7 @@ use native.Mathlib.Omega.{arith}
 use borrow.Author.Needs.{needs}
 use Rattle.rules.specs.Tests.{startUnder}
 use Rattle.sweep.specs.Sweep.{startTo}
-use Rattle.sweep.proofs.Inside.{some-method, method-inside}
+use Rattle.sweep.proofs.Inside.{limit, method-inside}
 use Rattle.sweep.proofs.at_start.Statement.{statement}
 use Rattle.sweep.proofs.at_start.Tie as tie
 
@@ -24,6 +24,6 @@ at-start-spec =
     (λ c κs.
     let r = c .before .before .before .before .before .pre in
     let w = c .before .method-at .ensures in
-    (r .within, omega (arith, w .1), omega (arith, w .0, method-inside r 0 (some-method r))))
+    (r .within, omega (arith, w .1), omega (arith, w .0, method-inside r 0 (limit r .some-method))))
     (λ c. search needs)
     returns)

@@ -2,7 +2,7 @@ use mathlib.Core.Path.{sym, _∙_}
 use native.Mathlib.Omega.{arith}
 use borrow.Author.Needs.{needs}
 use Rattle.sweep.specs.Sweep.{leavingTo, leavingHolds}
-use Rattle.sweep.proofs.Inside.{few-nodes, method-of, exit-inside}
+use Rattle.sweep.proofs.Inside.{limit, method-of, exit-inside}
 use Rattle.sweep.proofs.leaving.Statement.{statement}
 use Rattle.sweep.proofs.leaving.Tie as tie
 
@@ -30,8 +30,8 @@ pub leaving-spec : {M : Type 1} → statement M
 leaving-spec =
     tie.close
     (tie.spec
-    (λ c κs. let p = c .before .before .pre in (p .0 .passed, omega (arith, few-nodes (p .0), p .1), p .2))
-    (λ c κs. let p = c .before .before .before .before .pre in omega (arith, few-nodes (p .0), p .1))
+    (λ c κs. let p = c .before .before .pre in (p .0 .passed, omega (arith, limit (p .0) .nodes, p .1), p .2))
+    (λ c κs. let p = c .before .before .before .before .pre in omega (arith, limit (p .0) .nodes, p .1))
     (λ c. omega (arith, c .before .before .before .before .before .pre .2))
     (λ c κs. let p = c .before .before .before .before .before .pre in (p .0 .within, (omega (arith, c .node-method .ensures .1), omega (arith, p .2))))
     (λ c κs.
@@ -41,6 +41,6 @@ leaving-spec =
     (p .0 .within, omega (arith, w .1), rw (w .0, m .0) (exit-inside (p .0) _ _ (method-of (p .0) _ (p .1)) (omega (arith, p .2)))))
     (λ c. search needs)
     returns
-    (λ c κs. let p = c .before .before .before .before .before .pre in (p .0, omega (arith, few-nodes (p .0), p .1), p .2))
+    (λ c κs. let p = c .before .before .before .before .before .pre in (p .0, omega (arith, limit (p .0) .nodes, p .1), p .2))
     (λ c. search needs)
     returns-2)

@@ -2,7 +2,8 @@ use denote.Ref.{now}
 use borrow.Author.Needs.{needs}
 use borrow.Author.Tests.{not-true, not-false}
 use Rattle.demand.specs.Demand.{calledIn}
-use Rattle.sweep.proofs.Inside.{still-ready, few-calls, call-node, call-method}
+use Rattle.rules.specs.declared.Source.the-variants.{Calls}
+use Rattle.sweep.proofs.Inside.{still-ready, few-all, call-node, call-method}
 use Rattle.sweep.proofs.Steady.{marked-row, unmarked-row}
 use Rattle.sweep.proofs.of_call.Statement.{statement}
 use Rattle.sweep.proofs.of_call.Tie as tie
@@ -41,7 +42,7 @@ pub of-call-spec : {M : Type 1} → statement M
 of-call-spec =
     tie.close
     (tie.spec
-    (λ c κs. let p = c .before .before .before .pre in (p .0 .within, few-calls (p .0) _ (p .1)))
+    (λ c κs. let p = c .before .before .before .pre in (p .0 .within, few-all (p .0) Calls _ (p .1)))
     (λ c. search needs)
     returns
     (λ c κs. c .before .before .before .before .before .before .before .pre .0)
