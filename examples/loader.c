@@ -7,9 +7,11 @@
 #include <stdlib.h>
 
 /* What an answer says, and what its place counts; NULL where there is none. */
-static const struct {
+struct meaning {
     const char *says, *place;
-} answers[] = {
+};
+
+static const struct meaning answers[] = {
     [SNELLAIR_PASS] = {"no run of this add-on lacks a permit", NULL},
     [SNELLAIR_TOO_SHORT] = {"the graph file has fewer than 14 bytes", NULL},
     [SNELLAIR_BAD_COUNT] = {"a count of the trailer is out of its limits",
@@ -62,12 +64,23 @@ static size_t sheet_length(size_t graph_length)
     return length <= SNELLAIR_LONGEST_SHEET ? length : 0;
 }
 
+/* A later Snellair may have answers that this loader doesn't know. */
+static struct meaning meaning_of(unsigned number)
+{
+    struct meaning unknown = {"an answer that this loader doesn't know", "place"};
+    if (number >= sizeof answers / sizeof answers[0] ||
+        answers[number].says == NULL)
+        return unknown;
+    return answers[number];
+}
+
 static int report(uint64_t answer)
 {
     unsigned number = SNELLAIR_NUMBER(answer);
-    printf("%u: %s", number, answers[number].says);
-    if (answers[number].place != NULL)
-        printf(" (%s %lu)", answers[number].place, SNELLAIR_PLACE(answer));
+    struct meaning meaning = meaning_of(number);
+    printf("%u: %s", number, meaning.says);
+    if (meaning.place != NULL)
+        printf(" (%s %lu)", meaning.place, SNELLAIR_PLACE(answer));
     printf("\n");
     return number == SNELLAIR_PASS ? 0 : number == SNELLAIR_OVERDRAWN ? 1 : 2;
 }

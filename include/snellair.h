@@ -1,12 +1,12 @@
 /* Snellair: whether an add-on's permission graph ever runs out of permits.
  *
- * Two operations over bytes that the caller lends. Neither allocates, keeps
- * anything, or needs anything tested first: every content and every length
- * gets an answer. Link target/staticlib/libloader.a.
+ * Two operations over bytes that the caller lends: whatever the bytes are, and
+ * however many, there is an answer. Neither allocates or keeps anything. Link
+ * target/staticlib/libloader.a; docs/FORMAT.md has the layout of both files.
  *
- * A pointer points to as many bytes as the length after it says, and is not
- * NULL, also where that is 0. The sheet that work out writes does not overlap
- * the graph. docs/FORMAT.md has the layout of both. */
+ * All that is asked of the caller: behind a pointer there are as many bytes as
+ * the length after it says, and the sheet that work out writes does not overlap
+ * the graph. With length 0 a pointer is not used, and may be NULL. */
 #ifndef SNELLAIR_H
 #define SNELLAIR_H
 
@@ -25,7 +25,8 @@ uint64_t snellair_work_out(const uint8_t *graph, size_t graph_len,
                            uint8_t *sheet, size_t sheet_len);
 
 /* Checks a sheet, whoever made it, against a graph. Both are only read, and
- * the sheet's length is as above. A graph for which this answers SNELLAIR_PASS has no run that overdraws. */
+ * the sheet's length is as above. A graph for which this answers SNELLAIR_PASS
+ * has no run that overdraws. */
 uint64_t snellair_check(const uint8_t *graph, size_t graph_len,
                         const uint8_t *sheet, size_t sheet_len);
 

@@ -1,0 +1,128 @@
+/* Lends the C face memory with nothing around it. Each graph file named as an
+ * argument is worked out, and what comes out is checked, at the start and at
+ * the end of pages between two that can't be touched; what is only read can't
+ * be written. A byte read or written beside those lent, or through a pointer
+ * that comes with length 0, ends the program by a signal. */
+#define _DEFAULT_SOURCE
+#include "snellair.h"
+
+#include <stdio.h>
+#include <stdlib.h>
+#include <string.h>
+#include <sys/mman.h>
+#include <unistd.h>
+
+/* Pages to lend, with one before and one after that can't be touched. */
+struct area {
+    uint8_t *start;
+    size_t size;
+};
+
+static void fail(const char *what)
+{
+    fprintf(stderr, "lent: %s\n", what);
+    exit(1);
+}
+
+static struct area make_area(size_t room)
+{
+    size_t page = (size_t)sysconf(_SC_PAGESIZE);
+    size_t size = (room + page - 1) / page * page;
+    uint8_t *all = mmap(NULL, size + 2 * page, PROT_NONE,
+                        MAP_PRIVATE | MAP_ANONYMOUS, -1, 0);
+    if (all == MAP_FAILED)
+        fail("no memory");
+    return (struct area){all + page, size};
+}
+
+static void permit(struct area area, int what)
+{
+    if (mprotect(area.start, area.size, what) != 0)
+        fail("mprotect");
+}
+
+static uint8_t *place(struct area area, size_t length, int at_end)
+{
+    return at_end ? area.start + area.size - length : area.start;
+}
+
+static size_t word(const uint8_t *bytes)
+{
+    return bytes[0] + 256u * bytes[1];
+}
+
+/* The length of the sheet of a graph that is not refused. */
+static size_t sheet_length(const uint8_t *graph, size_t length)
+{
+    const uint8_t *trailer = graph + length - 14;
+    return SNELLAIR_SHEET_BYTES(word(trailer), word(trailer + 2),
+                                word(trailer + 10));
+}
+
+static void expect(int holds, const char *name, const char *what)
+{
+    if (holds)
+        return;
+    fprintf(stderr, "lent, %s: %s\n", name, what);
+    exit(1);
+}
+
+/* A graph where it can only be read: first with no sheet, then with its own. */
+static void try_graph(const char *name, const uint8_t *graph, size_t length,
+                      struct area area, int at_end)
+{
+    uint64_t refused = snellair_work_out(graph, length, NULL, 0);
+    expect(snellair_check(graph, length, NULL, 0) == refused, name,
+           "no sheet, and the two answer otherwise");
+    if (SNELLAIR_NUMBER(refused) != SNELLAIR_BAD_SHEET) {
+        expect(SNELLAIR_NUMBER(refused) < SNELLAIR_BAD_SHEET &&
+                   refused != SNELLAIR_PASS,
+               name, "a verdict with no sheet");
+        return;
+    }
+    size_t sheet_size = sheet_length(graph, length);
+    permit(area, PROT_READ | PROT_WRITE);
+    uint8_t *sheet = place(area, sheet_size, at_end);
+    uint64_t verdict = snellair_work_out(graph, length, sheet, sheet_size);
+    permit(area, PROT_READ);
+    expect(snellair_check(graph, length, sheet, sheet_size) == verdict, name,
+           "check does not answer as work out did");
+}
+
+/* Reads a graph file to where it is lent, and keeps it from being written. */
+static uint8_t *read_graph(const char *path, struct area area, int at_end,
+                           size_t *length)
+{
+    FILE *file = fopen(path, "rb");
+    if (file == NULL)
+        fail(path);
+    permit(area, PROT_READ | PROT_WRITE);
+    *length = fread(area.start, 1, area.size, file);
+    fclose(file);
+    uint8_t *graph = place(area, *length, at_end);
+    memmove(graph, area.start, *length);
+    permit(area, PROT_READ);
+    return graph;
+}
+
+int main(int argc, char **argv)
+{
+    struct area graphs = make_area(SNELLAIR_LONGEST_GRAPH);
+    struct area sheets = make_area(SNELLAIR_LONGEST_SHEET);
+    for (int i = 1; i < argc; i++)
+        for (int at_end = 0; at_end < 2; at_end++) {
+            size_t length;
+            uint8_t *graph = read_graph(argv[i], graphs, at_end, &length);
+            try_graph(argv[i], graph, length, sheets, at_end);
+        }
+
+    /* Nothing at all: NULL, and a pointer to what can't be touched. */
+    permit(graphs, PROT_NONE);
+    expect(snellair_work_out(NULL, 0, NULL, 0) == SNELLAIR_TOO_SHORT &&
+               snellair_check(NULL, 0, NULL, 0) == SNELLAIR_TOO_SHORT &&
+               snellair_check(graphs.start, 0, graphs.start, 0) ==
+                   SNELLAIR_TOO_SHORT,
+           "nothing", "not answered 1");
+    printf("lent: %d graphs, and no byte beside them touched\n", argc - 1);
+    return 0;
+}
