@@ -1,10 +1,11 @@
 -- The packed number determines number and place.
 use Prim.Native.Nat.{_/_, _%_, _<_}
-use mathlib.Core.Path.{_≡_, refl}
+use mathlib.Core.Path.{_≡_, sym, _∙_}
 use native.Mathlib.Omega.{arith}
 use Rattle.answer.specs.declared.Answer.{Answer}
 use Rattle.answer.specs.declared.Answer.the-variants.{Pass, TooShort, BadCount, BadLength, BadEntry, BadNode, BadFlow, BadCall, BadCatch, BadOpening, BadSheet, BadBlock, Broken, Overdrawn}
 use Rattle.answer.specs.Number.{numberOf, placeOf, packedOf}
+use Rattle.answer.proofs.Settled.{answerOf, found}
 
 pub number-small : (a : Answer) → numberOf a < 256
 number-small Pass = omega arith
@@ -31,17 +32,4 @@ place-unpacked a h = omega (arith, number-small a)
 
 -- only a pass has the number 0
 pub zero-pass : (a : Answer) → numberOf a ≡ 0 → a ≡ Pass
-zero-pass Pass h = refl
-zero-pass TooShort h = absurd (omega arith)
-zero-pass (BadCount i) h = absurd (omega arith)
-zero-pass BadLength h = absurd (omega arith)
-zero-pass (BadEntry k) h = absurd (omega arith)
-zero-pass (BadNode k) h = absurd (omega arith)
-zero-pass (BadFlow k) h = absurd (omega arith)
-zero-pass (BadCall k) h = absurd (omega arith)
-zero-pass (BadCatch k) h = absurd (omega arith)
-zero-pass (BadOpening k) h = absurd (omega arith)
-zero-pass BadSheet h = absurd (omega arith)
-zero-pass (BadBlock w) h = absurd (omega arith)
-zero-pass (Broken r) h = absurd (omega arith)
-zero-pass (Overdrawn n) h = absurd (omega arith)
+zero-pass a h = sym (found a) ∙ (λ i. answerOf (h i) (placeOf a))

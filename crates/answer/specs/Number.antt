@@ -1,5 +1,6 @@
 -- The number and the place of each answer, as the table "What comes back" gives them, and both in one number.
 use Prim.Native.Nat.{ℕ, _+_, _*_}
+use mathlib.Core.Path.{_≡_}
 use Rattle.answer.specs.declared.Answer.{Answer}
 use Rattle.answer.specs.declared.Answer.the-variants.{Pass, TooShort, BadCount, BadLength, BadEntry, BadNode, BadFlow, BadCall, BadCatch, BadOpening, BadSheet, BadBlock, Broken, Overdrawn}
 
@@ -48,6 +49,11 @@ placeOf (BadBlock w) = w
 placeOf (Broken r) = r
 -- lowest reached node whose draw is not covered
 placeOf (Overdrawn n) = n
+
+-- the answer has this number and this place
+pub record Says (a : Answer) (number place : ℕ) : Type 0 where
+  pub number-is : numberOf a ≡ number
+  pub place-is : placeOf a ≡ place
 
 -- every answer has type 0 and line 0
 abbrev pub typeOf : Answer → ℕ

@@ -1,3 +1,4 @@
-pub mod Judged
+pub mod Passed
+pub mod Meaning
 pub mod Whole
 pub mod Sorts

@@ -11,7 +11,7 @@ use Rattle.tables.specs.declared.Tables.{Tables}
 use Rattle.tables.specs.Kinds.{drawKind, callKind, returnKind, throwKind}
 use Rattle.tables.specs.Fields.{nodeKind, nodeNumber}
 use Rattle.graph.specs.Graph.{graphIn}
-use Rattle.graph.proofs.Judged.{Judged}
+use Rattle.graph.proofs.Passed.{Judged}
 use Rattle.refuse.proofs.Fit.{node-fit}
 
 module _ (f : List ℕ) (t : Tables) (n : ℕ) (l : n < t .nodes) where

@@ -6,19 +6,22 @@ use mathlib.Core.List.{List}
 use Prim.Native.Nat.{ℕ, _<_, _≤_}
 use native.Mathlib.Omega.{arith}
 use lib.ListN.{length}
-use lib.Dec.{ltb, lit<}
-use borrow.Author.Tests.{le-ltb}
+use lib.Dec.{ltb, eqb, lit<}
+use borrow.Author.Tests.{le-ltb, eqb-true}
 use Rattle.words.specs.Lowest.{lowest}
 use Rattle.words.proofs.Lowest.{NoneBelow, none-found}
 use Rattle.answer.specs.declared.Answer.{Answer}
 use Rattle.answer.specs.declared.Answer.the-variants.{Pass, BadCount, BadLength}
 use Rattle.answer.specs.Number.{numberOf}
+use Rattle.answer.proofs.Unpack.{zero-pass}
 use Rattle.model.proofs.Formed.{Formed}
 use Rattle.tables.specs.declared.Tables.{Tables}
 use Rattle.tables.specs.Trailer.{trailer, tablesOf}
+use Rattle.layout.specs.Layout.{Within}
 use Rattle.graph.specs.Judge.{judgeIn, judgeOf}
+use Rattle.graph.specs.Judgement.{shapeOf, noShape, shapeFor, judgedOf}
 use Rattle.graph.specs.Graph.{graphOf}
-use Rattle.graph.proofs.Judged.{judged}
+use Rattle.graph.proofs.Passed.{judged}
 use Rattle.tables.proofs.Counts.{methods-are, nodes-are, flows-are, calls-are, catches-are, types-are, end-is}
 use Rattle.refuse.specs.Bad.{fewest, most, countBad, lengthBad}
 use Rattle.refuse.proofs.Fit.{count-fit, length-fit, entry-fit, node-fit, flow-fit, call-fit, catch-fit}
@@ -52,6 +55,24 @@ within-limits f h =
 
 pub limits : (f : List ℕ) → judgeOf f ≡ Pass → Limits (tablesOf f)
 limits f h = within-limits f (judged f (tablesOf f) h .counts)
+
+-- so the sheet of a file that passes is within its limits,
+pub within : (f : List ℕ) → judgeOf f ≡ Pass → Within (shapeOf (tablesOf f))
+within f h = let l = limits f h in record { few-methods = l .methods; few-nodes = l .nodes; few-types = l .types }
+
+-- which is the shape that is found,
+pub own-shape : (f : List ℕ) → judgeOf f ≡ Pass → judgedOf f .shape ≡ shapeOf (tablesOf f)
+unfolding shapeFor
+own-shape f h = rw h refl
+
+-- and that of a file that is refused has nothing in it
+pub shape-within : (f : List ℕ) → Within (judgedOf f .shape)
+unfolding shapeFor
+shape-within f = go (eqb (numberOf (judgeOf f)) 0) refl
+  where
+    go : (b : Bool) → eqb (numberOf (judgeOf f)) 0 ≡ b → Within (cond b (shapeOf (tablesOf f)) noShape)
+    go true e = within f (zero-pass (judgeOf f) (eqb-true _ 0 e))
+    go false e = record { few-methods = omega arith; few-nodes = omega arith; few-types = omega arith }
 
 pub formed : (f : List ℕ) → judgeOf f ≡ Pass → Formed (graphOf f)
 formed f h =

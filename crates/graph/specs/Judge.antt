@@ -6,9 +6,10 @@ use lib.ListN.{length}
 use lib.Dec.{ltb}
 use Rattle.words.specs.Lowest.{lowest}
 use Rattle.answer.specs.declared.Answer.{Answer}
-use Rattle.answer.specs.declared.Answer.the-variants.{Pass, TooShort, BadCount, BadLength, BadEntry, BadNode, BadFlow, BadCall, BadCatch, BadOpening}
+use Rattle.answer.specs.declared.Answer.the-variants.{Pass, TooShort, BadCount, BadLength, BadEntry, BadFlow, BadCall, BadCatch, BadOpening}
 use Rattle.tables.specs.declared.Tables.{Tables}
 use Rattle.tables.specs.Trailer.{tablesOf}
+use Rattle.graph.specs.Places.{badNodeAt}
 use Rattle.refuse.specs.Bad.{countBad, lengthBad, entryBad, nodeBad, flowBad, callBad, catchBad, openingBad}
 
 -- within a table the lowest row; where no row is refused, what comes next
@@ -19,7 +20,7 @@ refused bad rows answer next = cond (ltb (lowest bad rows) rows) (answer (lowest
 unfoldable pub judgeRows : List ℕ → Tables → Answer
 judgeRows f t =
     refused (entryBad f t) (t .methods) BadEntry
-    (refused (nodeBad f t) (t .nodes) BadNode
+    (refused (nodeBad f t) (t .nodes) (badNodeAt f t)
     (refused (flowBad f t) (t .flows) BadFlow
     (refused (callBad f t) (t .calls) BadCall
     (refused (catchBad f t) (t .catches) BadCatch

@@ -3,10 +3,11 @@ use Prim.Native.Nat.{ℕ}
 use mathlib.Core.Bool.{Bool}
 use mathlib.Core.List.{List}
 use Rattle.answer.specs.declared.Answer.{Answer}
-use Rattle.answer.specs.declared.Answer.the-variants.{BadCount, BadEntry, BadNode, BadFlow, BadCall, BadCatch, BadOpening}
+use Rattle.answer.specs.declared.Answer.the-variants.{BadCount, BadEntry, BadFlow, BadCall, BadCatch, BadOpening}
 use Rattle.tables.specs.declared.Tables.{Tables}
 use Rattle.graph.specs.declared.Table.{Table}
 use Rattle.graph.specs.declared.Table.the-variants.{Trailer, Methods, Nodes, Flow, Calls, Catches, Opening}
+use Rattle.graph.specs.Places.{badNodeAt}
 use Rattle.refuse.specs.Bad.{countBad, entryBad, nodeBad, flowBad, callBad, catchBad, openingBad}
 
 -- how many rows the table has
@@ -30,11 +31,11 @@ rowBad f t Catches = catchBad f t
 rowBad f t Opening = openingBad f t
 
 -- the answer that names the row
-abbrev pub badRow : Table → ℕ → Answer
-badRow Trailer k = BadCount k
-badRow Methods k = BadEntry k
-badRow Nodes k = BadNode k
-badRow Flow k = BadFlow k
-badRow Calls k = BadCall k
-badRow Catches k = BadCatch k
-badRow Opening k = BadOpening k
+abbrev pub badRow : List ℕ → Tables → Table → ℕ → Answer
+badRow f t Trailer k = BadCount k
+badRow f t Methods k = BadEntry k
+badRow f t Nodes k = badNodeAt f t k
+badRow f t Flow k = BadFlow k
+badRow f t Calls k = BadCall k
+badRow f t Catches k = BadCatch k
+badRow f t Opening k = BadOpening k

@@ -1,11 +1,36 @@
 // The judgement of a graph file: answers 1 to 9.
 use answer::Answer;
+use layout::Shape;
 use tables::Tables;
 ghost use mathlib.Core.Path.{_≡_};
 ghost use Prim.Native.Nat.{_<_};
 ghost use Rattle.words.specs.Lowest.{lowest};
-ghost use Rattle.graph.specs.Judge.{refused, judgeRows, judgeOf};
+ghost use Rattle.layout.specs.Layout.{Within};
+ghost use Rattle.graph.specs.Places.{badNodeAt, overdrawnAt};
+ghost use Rattle.graph.specs.Judge.{refused, judgeRows, judgeIn};
 ghost use Rattle.graph.specs.Scan.{rowsOf, rowBad, badRow};
+ghost use Rattle.graph.specs.Judgement.{shapeFor, judgedOf};
+ghost use Rattle.graph.specs.Meaning.{Judges};
+
+// What is found of a file by looking at it once: the answer 1 to 9 or 0, its tables, and the shape of its sheet.
+pub struct Judgement {
+    pub answer: Answer,
+    pub tables: Tables,
+    pub shape: Shape,
+}
+
+// The answers that name a node are made here.
+fn bad_node_at(f: &[u8], t: Tables, k: u16) -> Answer
+    ensures { λ r. ⌜ r ≡ badNodeAt (now (f .entry)) t k ⌝ }
+{
+    Answer::BadNode(k)
+}
+
+pub fn overdrawn_at(f: &[u8], t: Tables, n: u16) -> Answer
+    ensures { λ r. ⌜ r ≡ overdrawnAt (now (f .entry)) t n ⌝ }
+{
+    Answer::Overdrawn(n)
+}
 
 // The six tables, and the trailer's counts as one more.
 pub enum Table {
@@ -63,13 +88,13 @@ fn lowest_bad(f: &[u8], t: Tables, table: Table) -> usize
 }
 
 // The answer for row k of the table.
-fn bad_row(table: Table, k: u16) -> Answer
-    ensures { λ r. ⌜ r ≡ badRow table k ⌝ }
+fn bad_row(f: &[u8], t: Tables, table: Table, k: u16) -> Answer
+    ensures { λ r. ⌜ r ≡ badRow (now (f .entry)) t table k ⌝ }
 {
     match table {
         Table::Trailer => Answer::BadCount(k),
         Table::Methods => Answer::BadEntry(k),
-        Table::Nodes => Answer::BadNode(k),
+        Table::Nodes => bad_node_at(f, t, k),
         Table::Flow => Answer::BadFlow(k),
         Table::Calls => Answer::BadCall(k),
         Table::Catches => Answer::BadCatch(k),
@@ -79,11 +104,11 @@ fn bad_row(table: Table, k: u16) -> Answer
 
 // The table's refusal, and where it has none, the answer of what comes next.
 fn refused(f: &[u8], t: Tables, table: Table, next: Answer) -> Answer
-    ensures { λ r. ⌜ r ≡ refused (rowBad (now (f .entry)) t table) (rowsOf t table) (badRow table) next ⌝ }
+    ensures { λ r. ⌜ r ≡ refused (rowBad (now (f .entry)) t table) (rowsOf t table) (badRow (now (f .entry)) t table) next ⌝ }
 {
     let k = lowest_bad(f, t, table);
     if k < rows(t, table) {
-        return bad_row(table, k as u16);
+        return bad_row(f, t, table, k as u16);
     }
     next
 }
@@ -100,16 +125,48 @@ fn judge_rows(f: &[u8], t: Tables) -> Answer
     refused(f, t, Table::Methods, nodes)
 }
 
-// Pass says that nothing refuses the file; whether a run overdraws is for the operations above to say.
-pub fn judge(f: &[u8]) -> Answer
-    ensures { λ r. ⌜ r ≡ judgeOf (now (f .entry)) ⌝ }
+fn judge(f: &[u8], t: Tables) -> Answer
+    ensures { λ r. ⌜ r ≡ judgeIn (now (f .entry)) t ⌝ }
 {
     if f.len() < 14 {
         return Answer::TooShort;
     }
-    let t = tables::read(f);
     if refuse::length_bad(f, t) {
         return refused(f, t, Table::Trailer, Answer::BadLength);
     }
     refused(f, t, Table::Trailer, judge_rows(f, t))
+}
+
+// The shape of the sheet. A file that is refused has no sheet: no methods, nodes or types.
+fn shape(a: Answer, t: Tables) -> Shape
+    ensures { λ r. ⌜ r ≡ shapeFor a t ⌝ }
+{
+    if answer::number(a) == 0 {
+        return Shape {
+            methods: t.methods as usize,
+            nodes: t.nodes as usize,
+            types: t.types as usize,
+        };
+    }
+    Shape {
+        methods: 0,
+        nodes: 0,
+        types: 0,
+    }
+}
+
+// Pass says that nothing refuses the file; whether a run overdraws is for the operations above to say.
+pub fn judged(f: &[u8]) -> Judgement
+    ensures equals { λ r. ⌜ r ≡ judgedOf (now (f .entry)) ⌝ }
+    ensures means { λ r. ⌜ Judges (now (f .entry)) (r .answer) ⌝ }
+    ensures within { λ r. ⌜ Within (r .shape) ⌝ }
+{
+    let t = tables::read(f);
+    let a = judge(f, t);
+    let x = shape(a, t);
+    Judgement {
+        answer: a,
+        tables: t,
+        shape: x,
+    }
 }

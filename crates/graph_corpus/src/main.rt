@@ -14,7 +14,9 @@ fn print_answer(name: &[u8], a: answer::Answer) {
 fn judge_open(name: &[u8], fd: i32) {
     let mut buffer = [0u8; 16384];
     let n = io::read_full(fd, &mut buffer);
-    print_answer(name, graph::judge(&buffer[..n]));
+    let j = graph::judged(&buffer[..n]);
+    let a = j.answer;
+    print_answer(name, a);
 }
 
 fn judge_arg(i: usize) {

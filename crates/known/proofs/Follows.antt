@@ -9,14 +9,14 @@ use Rattle.effect.specs.declared.Stock.{Stock}
 use Rattle.effect.specs.Whole.{coversOf}
 use Rattle.effect.proofs.Bools.{and-l, and-r, clash}
 use Rattle.model.specs.Machine.{Frame, frame, At, Run, stay, more, along, enter, again}
-use Rattle.model.specs.Stocks.{Does, plain, grant, draw, done, Covered, doing}
+use Rattle.model.specs.Stocks.{Does, plain, grant, draw, done, Covered}
+use Rattle.model.specs.Program.{doings}
 use Rattle.tables.specs.declared.Tables.{Tables}
 use Rattle.tables.specs.Trailer.{tablesOf}
 use Rattle.tables.specs.Kinds.{drawKind, callKind, returnKind}
 use Rattle.tables.specs.Fields.{entryOf, nodeKind, nodeCount, flowFrom, flowTo, callNode, callMethod}
-use Rattle.graph.specs.Graph.{graphOf}
 use Rattle.nodes.specs.Nodes.{doesIn, openingIn}
-use Rattle.work.specs.Meaning.{Overdrawing}
+use Rattle.nodes.specs.Program.{programOf, Overdrawing}
 
 -- What the runs of the table choose at a step: the flow row to go along, the call row to enter by, or the same method again. None of them
 -- goes back from a call or throws.
@@ -71,7 +71,7 @@ module _ (f : List ℕ) where
   follows z (repeat ∷ c) n (frame d m r ∷ σ) s = isKind returnKind n && ltb 1 r && follows z c (entryOf f m) (frame d m (r - 1) ∷ σ) s
 
   abbrev Gets : ℕ → List Frame → Stock → Type 0
-  Gets n σ s = Run (graphOf f) (doing (doesIn f t)) (openingIn f t) (At n σ s)
+  Gets n σ s = Run (programOf f .graph) (doings (programOf f)) (programOf f .opening) (At n σ s)
 
   leads : (z : ℕ) (c : List Choice) (n : ℕ) (σ : List Frame) (s : Stock) → Gets n σ s → follows z c n σ s ≡ true → Overdrawing f z
   unfolding follows

@@ -1,14 +1,15 @@
 -- The test of a row, and that a row that passes it is true.
 use Prim.Native.Nat.{ℕ, _<_}
-use mathlib.Core.Path.{_≡_, subst}
+use mathlib.Core.Path.{_≡_, sym, ap, subst}
 use mathlib.Core.Bool.{Bool, true, false, _&&_, not}
 use mathlib.Core.List.{List, [], _∷_}
 use native.Mathlib.Omega.{arith}
 use lib.Dec.{eqb}
 use borrow.Author.Tests.{eqb-true, not-true}
 use Rattle.answer.specs.declared.Answer.{Answer}
-use Rattle.answer.specs.declared.Answer.the-variants.{Pass, Overdrawn}
-use Rattle.answer.specs.Number.{numberOf, placeOf}
+use Rattle.answer.specs.declared.Answer.the-variants.{Pass}
+use Rattle.answer.specs.Number.{numberOf, placeOf, Says}
+use Rattle.answer.proofs.Settled.{says}
 use Rattle.answer.proofs.Unpack.{zero-pass}
 use Rattle.single.specs.declared.One.{One}
 use Rattle.effect.specs.declared.Stock.{Stock}
@@ -19,15 +20,18 @@ use Rattle.model.proofs.Sound.{sound}
 use Rattle.model.proofs.Exact.{never-overdraws-at}
 use Rattle.tables.specs.Trailer.{tablesOf}
 use Rattle.tables.specs.Fields.{entryOf}
-use Rattle.graph.proofs.Judged.{judge-few}
+use Rattle.graph.specs.Judgement.{shapeOf}
+use Rattle.graph.specs.Places.{overdrawnAt}
+use Rattle.graph.proofs.Passed.{judge-few}
 use Rattle.nodes.specs.Nodes.{openingIn}
+use Rattle.nodes.specs.Program.{Brings, Overdrawing}
 use Rattle.nodes.proofs.Setting.{setting}
 use Rattle.layout.specs.Layout.{nodeAt}
 use Rattle.demand.specs.Demand.{marked}
-use Rattle.rules.specs.Sheet.{shapeOf}
+use Rattle.rules.specs.Sheet.{sheet, WellFormed, Holds, IsReached}
 use Rattle.rules.proofs.Blocks.{true-mark}
 use Rattle.permit.specs.Check.{checkOf}
-use Rattle.permit.specs.Meaning.{sheet, WellFormed, Holds, IsReached, IsCovered, Checks, refused, wrong-length, ill-formed, broken, overdrawn, accepted}
+use Rattle.permit.specs.Meaning.{IsCovered, Checks, refused, wrong-length, ill-formed, broken, overdrawn, accepted}
 use Rattle.permit.proofs.Meaning.{checks, accepts, safe}
 use Rattle.work.specs.Meaning as work
 use Rattle.work.proofs.Agree.{wrote}
@@ -65,29 +69,33 @@ module _ (f u : List ℕ) where
   CoversBelow n = WellFormed f u × ((r : ℕ) → Holds f u r) × ((m : ℕ) → m < n → IsReached f u m → IsCovered f u m)
 
   was-overdrawn : {a : Answer} → Checks f u a → numberOf a ≡ 13 → CoversBelow (placeOf a)
-  was-overdrawn (refused n) e = absurd (omega (arith, judge-few f (tablesOf f)))
-  was-overdrawn (wrong-length p n) e = absurd (omega arith)
-  was-overdrawn (ill-formed p q b l h k) e = absurd (omega arith)
-  was-overdrawn (broken w r h n) e = absurd (omega arith)
-  was-overdrawn (overdrawn w h n y k b) e = (w, h, b)
-  was-overdrawn (accepted w h k) e = absurd (omega arith)
+  was-overdrawn (refused n v) e = absurd (omega (arith, judge-few f (tablesOf f), v .number-is))
+  was-overdrawn (wrong-length p n v) e = absurd (omega (arith, v .number-is))
+  was-overdrawn (ill-formed p q b l h k v) e = absurd (omega (arith, v .number-is))
+  was-overdrawn (broken w r h n v) e = absurd (omega (arith, v .number-is))
+  was-overdrawn (overdrawn w h n y k b v) e = (w, h, λ m l. b m (omega (arith, v .place-is)))
+  was-overdrawn (accepted w h k v) e = absurd (omega (arith, v .number-is))
 
   -- With the sheet that work out wrote, its one answer is the one that the runs give: no run overdraws,
-  if-passes : checkOf f u ≡ Pass → Answers f Pass
-  if-passes e s r b l w = only f s r r w (work.passes l (wrote f s r w (accepts f u .0 e .0 .0) l .0) (safe f u e)) .0
+  if-passes : checkOf f u ≡ Pass → Answers f 0 0
+  if-passes e s r a l w =
+      let q = only f s r r w (work.passes l (wrote f s r w (accepts f u .0 e .0 .0) l .0) (safe f u (ap numberOf e)) (says Pass)) .0 in
+      subst (λ b. Says b 0 0) (sym q) (says Pass)
 
   -- or one overdraws at n, and none at a lower node.
-  if-overdrawn : (n : ℕ) → numberOf (checkOf f u) ≡ 13 → placeOf (checkOf f u) ≡ n → work.Overdrawing f n → Answers f (Overdrawn n)
-  if-overdrawn n e p o s r b l w = only f s r r w (work.overdrawn l (wrote f s r w (c .0 .0) l .0) n o below) .0
+  if-overdrawn : (n : ℕ) → numberOf (checkOf f u) ≡ 13 → placeOf (checkOf f u) ≡ n → Overdrawing f n → Answers f 13 n
+  if-overdrawn n e p o s r a l w =
+      let q = only f s r r w (work.overdrawn l (wrote f s r w (c .0 .0) l .0) n o below (says (overdrawnAt f (tablesOf f) n))) .0 in
+      subst (λ b. Says b 13 n) (sym q) (says (overdrawnAt f (tablesOf f) n))
     where
       c : CoversBelow n
       c = subst CoversBelow p (was-overdrawn (checks f u) e)
 
-      below : (m : ℕ) → m < n → work.Overdrawing f m → ⊥
+      below : (m : ℕ) → m < n → Overdrawing f m → ⊥
       below m h = never-overdraws-at (setting f (c .0 .0)) (sheet f u) (c .1) m (c .2 m h)
 
   -- And no run arrives at a node that the sheet does not mark.
-  if-unmarked : checkOf f u ≡ Pass → (n : ℕ) → marked u (nodeAt (shapeOf (tablesOf f)) n) ≡ false → (h : Stock) → work.Brings f n h → ⊥
+  if-unmarked : checkOf f u ≡ Pass → (n : ℕ) → marked u (nodeAt (shapeOf (tablesOf f)) n) ≡ false → (h : Stock) → Brings f n h → ⊥
   if-unmarked e n m h b =
       let a = accepts f u .0 e in
       clash _ (true-mark u _ (sound (setting f (a .0 .0)) (sheet f u) (a .1) (b .1) .0 .0 .1)) m

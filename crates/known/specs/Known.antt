@@ -4,23 +4,23 @@ use mathlib.Core.Path.{_≡_}
 use mathlib.Core.List.{List, [], _∷_}
 use lib.ListN.{length}
 use Rattle.answer.specs.declared.Answer.{Answer}
-use Rattle.answer.specs.declared.Answer.the-variants.{Pass, Overdrawn}
+use Rattle.answer.specs.Number.{Says}
 use Rattle.effect.specs.declared.Stock.{Stock}
 use Rattle.effect.specs.Meaning.{AtMost}
-use Rattle.tables.specs.Trailer.{tablesOf}
+use Rattle.nodes.specs.Program.{Brings}
 use Rattle.layout.specs.Layout.{sheetBytes}
-use Rattle.rules.specs.Sheet.{shapeOf}
-use Rattle.work.specs.Meaning.{Brings, WorksOut}
+use Rattle.rules.specs.Sheet.{shape}
+use Rattle.work.specs.Meaning.{WorksOut}
 use Rattle.known.specs.File.{fileBytes}
 use Rattle.known.specs.Table.{Claim, passes, overdrawn, unreached, same, at-most, not-at-most}
 
--- Of the file f and any sheet of the right length, work out may answer a and nothing else.
-abbrev pub Answers : List ℕ → Answer → Type 0
-Answers f a = (s r : List ℕ) (b : Answer) → length s ≡ sheetBytes (shapeOf (tablesOf f)) → WorksOut f s r b → b ≡ a
+-- Of the file f and any sheet of the right length, work out answers with this number and this place, and with no other.
+abbrev pub Answers : List ℕ → ℕ → ℕ → Type 0
+Answers f number place = (s r : List ℕ) (a : Answer) → length s ≡ sheetBytes (shape f) → WorksOut f s r a → Says a number place
 
 abbrev pub Known : Claim → Type 0
-Known (passes g) = Answers (fileBytes g) Pass
-Known (overdrawn g n) = Answers (fileBytes g) (Overdrawn n)
+Known (passes g) = Answers (fileBytes g) 0 0
+Known (overdrawn g n) = Answers (fileBytes g) 13 n
 Known (unreached g n) = (h : Stock) → Brings (fileBytes g) n h → ⊥
 Known (same x y) = x ≡ y
 Known (at-most a b) = AtMost a b

@@ -1,6 +1,8 @@
 -- Where the blocks of a sheet stand, in words of two bytes.
 use Prim.Native.Nat.{ℕ, _+_, _-_, _*_, _/_, _%_, _≤_}
 use mathlib.Core.Bool.{Bool, cond, _&&_}
+use mathlib.Core.List.{List}
+use lib.ListN.{replicate}
 use lib.Dec.{ltb, eqb}
 use Rattle.layout.specs.declared.Shape.{Shape}
 
@@ -34,6 +36,10 @@ sheetWords x = x .methods * (10 + 38 * x .types) + x .nodes * (1 + 4 * x .types)
 
 unfoldable pub sheetBytes : Shape → ℕ
 sheetBytes x = 2 * sheetWords x
+
+-- "at most 28,032 (56,064 bytes)"
+unfoldable pub longestSheet : List ℕ
+longestSheet = replicate 56064 0
 
 -- "A block is a method's mark with its stock, one exit or one node", in the order of the sheet: ten of each method, then the nodes
 abbrev pub blockCount : Shape → ℕ

@@ -1,12 +1,20 @@
 // Where the blocks of a sheet stand, in words of two bytes. A sheet does not know graphs: its shape is three numbers.
 ghost use mathlib.Core.Path.{_≡_};
 ghost use Prim.Native.Nat.{_<_, _≤_};
-ghost use Rattle.layout.specs.Layout.{Within, methodAt, exitAt, nodeAt, sheetBytes, blockCount, isStock, blockSize, blockAt};
+ghost use lib.ListN.{length};
+ghost use Rattle.layout.specs.Layout.{Within, methodAt, exitAt, nodeAt, longestSheet, sheetBytes, blockCount, isStock, blockSize, blockAt};
 
 pub struct Shape {
     pub methods: usize,
     pub nodes: usize,
     pub types: usize,
+}
+
+// A blank sheet, of which a part is as long as any file's sheet.
+pub fn longest_sheet() -> [u8; 56064]
+    ensures { λ r. ⌜ (r ≡ longestSheet) × (56064 ≡ length r) ⌝ }
+{
+    [0; 56064]
 }
 
 // The sheet's length.

@@ -12,6 +12,7 @@ use Rattle.effect.proofs.Potential.{potOf, potStock}
 use Rattle.model.proofs.Attained.{Attained}
 use Rattle.tables.specs.Trailer.{tablesOf}
 use Rattle.graph.specs.Judge.{judgeOf}
+use Rattle.graph.specs.Judgement.{shapeOf}
 use Rattle.nodes.proofs.Setting.{setting}
 use Rattle.layout.specs.declared.Shape.{Shape}
 use Rattle.layout.specs.Layout.{sheetBytes, blockCount, blockAt, isStock}
@@ -20,7 +21,7 @@ use Rattle.sheet.proofs.Back.{EffectFits, StockFits}
 use Rattle.sheet.proofs.Potential.{potential}
 use Rattle.formed.specs.Ill.{countsFit, firstIll}
 use Rattle.demand.specs.Demand.{marked}
-use Rattle.rules.specs.Sheet.{shapeOf, sheetIn}
+use Rattle.rules.specs.Sheet.{sheetIn}
 
 -- what may stand in a marked block of a sheet of t types
 pub record Stands (t : ℕ) (e : Effect) : Type 0 where

@@ -7,9 +7,9 @@ use lib.Dec.{ltb}
 use borrow.Author.Tests.{lt-ltb, le-ltb, eq-eqb, ne-eqb}
 use native.Mathlib.Omega.{arith}
 use Rattle.tables.specs.Trailer.{tablesOf}
+use Rattle.graph.specs.Judgement.{shapeOf}
 use Rattle.layout.specs.declared.Shape.{Shape}
 use Rattle.layout.specs.Layout.{isStock}
-use Rattle.rules.specs.Sheet.{shapeOf}
 
 abbrev pub shape : List ℕ → Shape
 shape f = shapeOf (tablesOf f)

@@ -24,7 +24,7 @@ use Rattle.tables.specs.Kinds.{grantKind, drawKind}
 use Rattle.tables.specs.Fields.{nodeKind, nodeRights, openingRights}
 use Rattle.refuse.proofs.Fit.{node-fit, opening-fit}
 use Rattle.graph.specs.Judge.{judgeOf}
-use Rattle.graph.proofs.Judged.{judged}
+use Rattle.graph.proofs.Passed.{judged}
 use Rattle.nodes.specs.Nodes.{doesIn, openingAt, openingIn}
 use Rattle.nodes.proofs.Cases.{does-outside, does-grant, does-draw, does-plain, opening-some, opening-none}
 use Rattle.layout.specs.declared.Shape.{Shape}

@@ -2,3 +2,4 @@ pub mod Machine
 pub mod Rules
 pub mod Rounds
 pub mod Stocks
+pub mod Program

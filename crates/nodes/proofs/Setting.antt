@@ -11,13 +11,14 @@ use Rattle.tables.specs.Kinds.{grantKind, drawKind}
 use Rattle.tables.specs.Fields.{nodeKind, nodeRights}
 use Rattle.refuse.proofs.Fit.{node-fit}
 use Rattle.graph.specs.Judge.{judgeOf}
-use Rattle.graph.specs.Graph.{graphOf}
-use Rattle.graph.proofs.Judged.{judged}
+use Rattle.graph.proofs.Passed.{judged}
 use Rattle.graph.proofs.Whole.{formed, limits}
-use Rattle.model.specs.Stocks.{permits, Does, plain, doing, stepOf}
+use Rattle.model.specs.Stocks.{permits, Does, plain}
+use Rattle.model.specs.Program.{doings, steps}
 use Rattle.model.proofs.Setting.{Setting}
 use Rattle.model.proofs.Stocks.{laws, told, Fits}
-use Rattle.nodes.specs.Nodes.{doesIn, openingIn}
+use Rattle.nodes.specs.Nodes.{doesIn}
+use Rattle.nodes.specs.Program.{programOf}
 use Rattle.nodes.proofs.Cases.{does-outside, does-grant, does-draw, does-plain}
 
 rights-lt : (f : List ℕ) (n : ℕ) → nodeRights f (tablesOf f) n < 65536
@@ -46,10 +47,10 @@ module _ (f : List ℕ) (pass : judgeOf f ≡ Pass) where
   setting = record {
     W = permits;
     laws = laws;
-    G = graphOf f;
+    G = programOf f .graph;
     formed = formed f pass;
-    D = doing (doesIn f (tablesOf f));
-    step = λ n. stepOf (doesIn f (tablesOf f) n);
-    told = told (doesIn f (tablesOf f)) fits;
-    opening = openingIn f (tablesOf f);
+    D = doings (programOf f);
+    step = steps (programOf f);
+    told = told (programOf f .does) fits;
+    opening = programOf f .opening;
   }

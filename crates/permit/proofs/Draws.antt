@@ -9,24 +9,23 @@ use borrow.Author.Tests.{eqb-true, eq-eqb, not-true}
 use Rattle.answer.specs.declared.Answer.the-variants.{Pass}
 use Rattle.effect.specs.Whole.{coversOf}
 use Rattle.effect.proofs.Bools.{and-l, and-r, and-i}
-use Rattle.model.specs.Rules.{stock-at}
-use Rattle.model.specs.Stocks.{permits, Covered}
+use Rattle.model.specs.Stocks.{Covered}
 use Rattle.tables.specs.declared.Tables.{Tables}
 use Rattle.tables.specs.Trailer.{tablesOf}
 use Rattle.tables.specs.Kinds.{grantKind, drawKind}
 use Rattle.tables.specs.Fields.{nodeMethod, nodeKind, nodeNumber, nodeRights}
 use Rattle.refuse.proofs.Fit.{node-fit}
 use Rattle.graph.specs.Judge.{judgeOf}
-use Rattle.graph.specs.Graph.{graphOf}
-use Rattle.graph.proofs.Judged.{judged}
+use Rattle.graph.specs.Judgement.{shapeOf}
+use Rattle.graph.proofs.Passed.{judged}
 use Rattle.nodes.proofs.Cases.{does-grant, does-draw, does-plain}
 use Rattle.layout.specs.Layout.{methodAt, nodeAt}
 use Rattle.demand.specs.Demand.{marked}
-use Rattle.rules.specs.Sheet.{shapeOf}
+use Rattle.rules.specs.Sheet.{stockIn, IsReached}
 use Rattle.rules.proofs.Blocks.{mark-true, true-mark}
 use Rattle.rules.proofs.Asked.{true-false}
 use Rattle.permit.specs.Check.{uncoveredAt}
-use Rattle.permit.specs.Meaning.{sheet, IsReached, IsCovered}
+use Rattle.permit.specs.Meaning.{IsCovered}
 
 module _ (f s : List ℕ) (pass : judgeOf f ≡ Pass) (n : ℕ) (l : n < tablesOf f .nodes) where
   abbrev t : Tables
@@ -34,15 +33,15 @@ module _ (f s : List ℕ) (pass : judgeOf f ≡ Pass) (n : ℕ) (l : n < tablesO
 
   -- of a draw, covered is what the test of crate effect says
   covers : Bool
-  covers = coversOf (stock-at permits (graphOf f) (sheet f s) n) (nodeNumber f t n) (nodeRights f t n)
+  covers = coversOf (stockIn f s n) (nodeNumber f t n) (nodeRights f t n)
 
   covered : nodeKind f t n ≡ drawKind → covers ≡ true → IsCovered f s n
   unfolding covers
-  covered k h = subst (λ d. Covered d (stock-at permits (graphOf f) (sheet f s) n)) (sym (does-draw f t n l k)) h
+  covered k h = subst (λ d. Covered d (stockIn f s n)) (sym (does-draw f t n l k)) h
 
   is-covered : nodeKind f t n ≡ drawKind → IsCovered f s n → covers ≡ true
   unfolding covers
-  is-covered k h = subst (λ d. Covered d (stock-at permits (graphOf f) (sheet f s) n)) (does-draw f t n l k) h
+  is-covered k h = subst (λ d. Covered d (stockIn f s n)) (does-draw f t n l k) h
 
   pub uncovered-says : uncoveredAt f t (shapeOf t) s n ≡ true → IsReached f s n × (IsCovered f s n → ⊥)
   unfolding uncoveredAt covers
@@ -61,8 +60,8 @@ module _ (f s : List ℕ) (pass : judgeOf f ≡ Pass) (n : ℕ) (l : n < tablesO
   covered-says h y = elim (ℕ-discrete (nodeKind f t n) drawKind) [
     | yes k ↦ covered k (go k covers refl)
     | no k ↦ elim (ℕ-discrete (nodeKind f t n) grantKind) [
-      | yes g ↦ subst (λ d. Covered d (stock-at permits (graphOf f) (sheet f s) n)) (sym (does-grant f t n l g)) tt
-      | no g ↦ subst (λ d. Covered d (stock-at permits (graphOf f) (sheet f s) n)) (sym (does-plain f t n l g k)) tt
+      | yes g ↦ subst (λ d. Covered d (stockIn f s n)) (sym (does-grant f t n l g)) tt
+      | no g ↦ subst (λ d. Covered d (stockIn f s n)) (sym (does-plain f t n l g k)) tt
     ]
   ]
     where

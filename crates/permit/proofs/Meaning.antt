@@ -12,28 +12,30 @@ use borrow.Author.Tests.{ltb-true, ltb-false, lt-ltb, le-ltb, eqb-true, eqb-fals
 use Rattle.words.specs.Lowest.{lowest}
 use Rattle.words.proofs.Lowest.{NoneBelow, lowest-is, lowest-none, is-lowest}
 use Rattle.answer.specs.declared.Answer.{Answer}
-use Rattle.answer.specs.declared.Answer.the-variants.{Pass, BadSheet, BadBlock, Broken, Overdrawn}
+use Rattle.answer.specs.declared.Answer.the-variants.{Pass, BadSheet, BadBlock, Broken}
 use Rattle.answer.specs.Number.{numberOf}
+use Rattle.answer.proofs.Settled.{says-only, says}
 use Rattle.answer.proofs.Unpack.{zero-pass}
 use Rattle.model.specs.Rules.{Obeys}
-use Rattle.model.specs.Stocks.{permits, stepOf}
+use Rattle.model.specs.Stocks.{permits}
+use Rattle.model.specs.Program.{steps}
 use Rattle.model.proofs.Exact.{never-overdraws}
 use Rattle.tables.specs.declared.Tables.{Tables}
 use Rattle.tables.specs.Trailer.{tablesOf}
+use Rattle.graph.specs.Places.{overdrawnAt}
 use Rattle.graph.specs.Judge.{judgeOf}
-use Rattle.graph.specs.Graph.{graphOf}
-use Rattle.graph.proofs.Whole.{limits}
-use Rattle.nodes.specs.Nodes.{doesIn, openingIn}
+use Rattle.graph.specs.Judgement.{shapeOf}
+use Rattle.nodes.specs.Program.{programOf}
 use Rattle.nodes.proofs.Setting.{setting}
 use Rattle.layout.specs.declared.Shape.{Shape}
-use Rattle.layout.specs.Layout.{Within, blockCount, blockAt, sheetBytes}
+use Rattle.layout.specs.Layout.{blockCount, blockAt, sheetBytes}
 use Rattle.formed.specs.Ill.{illBlock, firstIll}
 use Rattle.rules.specs.Broken.{brokenOf}
-use Rattle.rules.specs.Sheet.{shapeOf}
+use Rattle.rules.specs.Sheet.{sheet, WellFormed, Holds, IsReached}
 use Rattle.rules.proofs.Asked.{true-false}
 use Rattle.rules.proofs.Exact.{rules-below, rule-broken, rules-beyond}
 use Rattle.permit.specs.Check.{uncoveredAt, wholeSheet, judgedSheet, checkOf}
-use Rattle.permit.specs.Meaning.{sheet, WellFormed, Holds, IsReached, IsCovered, Checks, Safe, refused, wrong-length, ill-formed, broken, overdrawn, accepted}
+use Rattle.permit.specs.Meaning.{IsCovered, Checks, Safe, refused, wrong-length, ill-formed, broken, overdrawn, accepted}
 use Rattle.permit.proofs.Draws.{uncovered-says, covered-says}
 
 module _ (f s : List ℕ) where
@@ -69,7 +71,7 @@ module _ (f s : List ℕ) where
       | no l ↦ absurd (rule-broken f (w .0) s (whole-of (w .2)) (omega arith) (h _))
     ]
 
-    draws : 11 ≤ brokenOf f t x s → Checks f s (cond (ltb (lowest (uncoveredAt f t x s) (t .nodes)) (t .nodes)) (Overdrawn (lowest (uncoveredAt f t x s) (t .nodes))) Pass)
+    draws : 11 ≤ brokenOf f t x s → Checks f s (cond (ltb (lowest (uncoveredAt f t x s) (t .nodes)) (t .nodes)) (overdrawnAt f t (lowest (uncoveredAt f t x s) (t .nodes))) Pass)
     draws h = go (ltb n (t .nodes)) refl
       where
         n : ℕ
@@ -78,20 +80,20 @@ module _ (f s : List ℕ) where
         below : (m : ℕ) → m < n → IsReached f s m → IsCovered f s m
         below m k y = covered-says f s (w .0) m (y .0 .0) (is-lowest (uncoveredAt f t x s) (t .nodes) .before m k) y
 
-        go : (b : Bool) → ltb n (t .nodes) ≡ b → Checks f s (cond b (Overdrawn n) Pass)
+        go : (b : Bool) → ltb n (t .nodes) ≡ b → Checks f s (cond b (overdrawnAt f t n) Pass)
         go true e =
             let l = ltb-true n (t .nodes) e in
             let u = uncovered-says f s (w .0) n l (is-lowest (uncoveredAt f t x s) (t .nodes) .found l) in
-            overdrawn w (all-hold h) n (u .0) (u .1) below
-        go false e = accepted w (all-hold h) (λ m y. below m (omega (arith, ltb-false n (t .nodes) e, y .0 .0)) y)
+            overdrawn w (all-hold h) n (u .0) (u .1) below (says (overdrawnAt f t n))
+        go false e = accepted w (all-hold h) (λ m y. below m (omega (arith, ltb-false n (t .nodes) e, y .0 .0)) y) (says Pass)
 
     whole : Checks f s (wholeSheet f t x s)
     unfolding wholeSheet
     whole = go (ltb (brokenOf f t x s) 11) refl
       where
         go : (b : Bool) → ltb (brokenOf f t x s) 11 ≡ b
-            → Checks f s (cond b (Broken (brokenOf f t x s)) (cond (ltb (lowest (uncoveredAt f t x s) (t .nodes)) (t .nodes)) (Overdrawn (lowest (uncoveredAt f t x s) (t .nodes))) Pass))
-        go true e = broken w (brokenOf f t x s) (rules-below f (w .0) s (whole-of (w .2))) (rule-broken f (w .0) s (whole-of (w .2)) (ltb-true _ _ e))
+            → Checks f s (cond b (Broken (brokenOf f t x s)) (cond (ltb (lowest (uncoveredAt f t x s) (t .nodes)) (t .nodes)) (overdrawnAt f t (lowest (uncoveredAt f t x s) (t .nodes))) Pass))
+        go true e = broken w (brokenOf f t x s) (rules-below f (w .0) s (whole-of (w .2))) (rule-broken f (w .0) s (whole-of (w .2)) (ltb-true _ _ e)) (says (Broken (brokenOf f t x s)))
         go false e = draws (ltb-false _ _ e)
 
   judged : judgeOf f ≡ Pass → Checks f s (judgedSheet f t x s)
@@ -102,14 +104,14 @@ module _ (f s : List ℕ) where
       ill e true h =
           let l = ltb-true (firstIll s x) (blockCount x) h in
           let r = is-lowest (illBlock s x) (blockCount x) in
-          ill-formed p e (firstIll s x) l (r .found l) (r .before)
+          ill-formed p e (firstIll s x) l (r .found l) (r .before) (says (BadBlock (blockAt x (firstIll s x))))
       ill e false h =
           let k = ltb-false (firstIll s x) (blockCount x) h in
           whole (p, e, λ b l. is-lowest (illBlock s x) (blockCount x) .before b (omega arith))
 
       go : (b : Bool) → eqb (length s) (sheetBytes x) ≡ b → Checks f s (cond b (cond (ltb (firstIll s x) (blockCount x)) (BadBlock (blockAt x (firstIll s x))) (wholeSheet f t x s)) BadSheet)
       go true e = ill (eqb-true _ _ e) (ltb (firstIll s x) (blockCount x)) refl
-      go false e = wrong-length p (eqb-false _ _ e)
+      go false e = wrong-length p (eqb-false _ _ e) (says BadSheet)
 
   -- Check's answer means what it should,
   pub checks : Checks f s (checkOf f s)
@@ -118,24 +120,24 @@ module _ (f s : List ℕ) where
     where
       go : (b : Bool) → eqb (numberOf (judgeOf f)) 0 ≡ b → Checks f s (cond b (judgedSheet f t x s) (judgeOf f))
       go true e = judged (zero-pass (judgeOf f) (eqb-true _ _ e))
-      go false e = refused (λ p. true-false (passes p) e)
+      go false e = refused (λ p. true-false (passes p) e) (says (judgeOf f))
 
   -- and there is no second answer that does.
   pub only : {a : Answer} → Checks f s a → a ≡ checkOf f s
   unfolding checkOf judgedSheet wholeSheet
-  only (refused n) = go (eqb (numberOf (judgeOf f)) 0) refl
+  only (refused n v) = says-only (judgeOf f) v ∙ go (eqb (numberOf (judgeOf f)) 0) refl
     where
       go : (b : Bool) → eqb (numberOf (judgeOf f)) 0 ≡ b → judgeOf f ≡ cond b (judgedSheet f t x s) (judgeOf f)
       go true e = absurd (n (zero-pass (judgeOf f) (eqb-true _ _ e)))
       go false e = refl
-  only (wrong-length p n) = rw (passes p, ne-eqb (length s) (sheetBytes x) n) refl
-  only (ill-formed p e b l h below) =
+  only (wrong-length p n v) = says-only BadSheet v ∙ rw (passes p, ne-eqb (length s) (sheetBytes x) n) refl
+  only (ill-formed p e b l h below v) =
       let q : firstIll s x ≡ b = lowest-is (illBlock s x) (blockCount x) b below l h in
-      rw (passes p, eq-eqb _ _ e, q, lt-ltb _ _ l) refl
-  only (broken w r below n) =
+      says-only (BadBlock (blockAt x b)) v ∙ rw (passes p, eq-eqb _ _ e, q, lt-ltb _ _ l) refl
+  only (broken w r below n v) =
       let q : brokenOf f t x s ≡ r = is-r (decLt r (brokenOf f t x s)) (decLt (brokenOf f t x s) r) in
       let l : r < 11 = few (decLt r 11) in
-      sym (checked-whole w ∙ rw (q, lt-ltb _ _ l) refl)
+      says-only (Broken r) v ∙ sym (checked-whole w ∙ rw (q, lt-ltb _ _ l) refl)
     where
       few : Dec (r < 11) → r < 11
       few (yes h) = h
@@ -145,9 +147,9 @@ module _ (f s : List ℕ) where
       is-r (yes h) k = absurd (n (rules-below f (w .0) s (whole-of (w .2)) r h))
       is-r (no h) (yes k) = absurd (rule-broken f (w .0) s (whole-of (w .2)) (omega (arith, few (decLt r 11))) (below _ k))
       is-r (no h) (no k) = omega arith
-  only (overdrawn w h n y u below) =
+  only (overdrawn w h n y u below v) =
       let q : lowest (uncoveredAt f t x s) (t .nodes) ≡ n = lowest-is (uncoveredAt f t x s) (t .nodes) n low (y .0 .0) (here (uncoveredAt f t x s n) refl) in
-      sym (checked-whole w ∙ rw (le-ltb _ _ (none-broken w h), q, lt-ltb _ _ (y .0 .0)) refl)
+      says-only (overdrawnAt f t n) v ∙ sym (checked-whole w ∙ rw (le-ltb _ _ (none-broken w h), q, lt-ltb _ _ (y .0 .0)) refl)
     where
       here : (b : Bool) → uncoveredAt f t x s n ≡ b → uncoveredAt f t x s n ≡ true
       here true e = e
@@ -157,39 +159,35 @@ module _ (f s : List ℕ) where
       low m k = go (uncoveredAt f t x s m) refl
         where
           go : (b : Bool) → uncoveredAt f t x s m ≡ b → uncoveredAt f t x s m ≡ false
-          go true e = let v = uncovered-says f s (w .0) m (omega (arith, y .0 .0)) e in absurd (v .1 (below m k (v .0)))
+          go true e = let z = uncovered-says f s (w .0) m (omega (arith, y .0 .0)) e in absurd (z .1 (below m k (z .0)))
           go false e = e
-  only (accepted w h c) =
+  only (accepted w h c v) =
       let q : lowest (uncoveredAt f t x s) (t .nodes) ≡ t .nodes = lowest-none (uncoveredAt f t x s) (t .nodes) (λ m l. go m l (uncoveredAt f t x s m) refl) in
-      sym (checked-whole w ∙ rw (le-ltb _ _ (none-broken w h), q, le-ltb (t .nodes) (t .nodes) (omega arith)) refl)
+      says-only Pass v ∙ sym (checked-whole w ∙ rw (le-ltb _ _ (none-broken w h), q, le-ltb (t .nodes) (t .nodes) (omega arith)) refl)
     where
       go : (m : ℕ) → m < t .nodes → (b : Bool) → uncoveredAt f t x s m ≡ b → uncoveredAt f t x s m ≡ false
-      go m l true e = let v = uncovered-says f s (w .0) m l e in absurd (v .1 (c m (v .0)))
+      go m l true e = let z = uncovered-says f s (w .0) m l e in absurd (z .1 (c m (z .0)))
       go m l false e = e
 
   -- Check accepts a sheet exactly if it is well formed, obeys the rules and covers every draw that it calls reached.
   abbrev pub Accepted : Type 0
-  Accepted = WellFormed f s × Obeys permits (graphOf f) (λ n. stepOf (doesIn f t n)) (openingIn f t) (sheet f s) × ((n : ℕ) → IsReached f s n → IsCovered f s n)
+  Accepted = WellFormed f s × Obeys permits (programOf f .graph) (steps (programOf f)) (programOf f .opening) (sheet f s) × ((n : ℕ) → IsReached f s n → IsCovered f s n)
 
-  was-accepted : {a : Answer} → Checks f s a → a ≡ Pass → Accepted
-  was-accepted (refused n) e = absurd (n e)
-  was-accepted (wrong-length p n) e = let z : _≡_ {A = ℕ} 10 0 = ap numberOf e in absurd (omega arith)
-  was-accepted (ill-formed p q b l h k) e = let z : _≡_ {A = ℕ} 11 0 = ap numberOf e in absurd (omega arith)
-  was-accepted (broken w r h n) e = let z : _≡_ {A = ℕ} 12 0 = ap numberOf e in absurd (omega arith)
-  was-accepted (overdrawn w h n y u k) e = let z : _≡_ {A = ℕ} 13 0 = ap numberOf e in absurd (omega arith)
-  was-accepted (accepted w h k) e = (w, h, k)
+  was-accepted : {a : Answer} → Checks f s a → numberOf a ≡ 0 → Accepted
+  was-accepted (refused n v) e = absurd (n (zero-pass (judgeOf f) (sym (v .number-is) ∙ e)))
+  was-accepted (wrong-length p n v) e = absurd (omega (arith, v .number-is))
+  was-accepted (ill-formed p q b l h k v) e = absurd (omega (arith, v .number-is))
+  was-accepted (broken w r h n v) e = absurd (omega (arith, v .number-is))
+  was-accepted (overdrawn w h n y u k v) e = absurd (omega (arith, v .number-is))
+  was-accepted (accepted w h k v) e = (w, h, k)
 
   pub accepts : (checkOf f s ≡ Pass) ↔ Accepted
-  accepts = (was-accepted checks, λ a. sym (only (accepted (a .0) (a .1) (a .2))))
+  accepts = (λ e. was-accepted checks (ap numberOf e), λ a. sym (only (accepted (a .0) (a .1) (a .2) (says Pass))))
 
   -- No graph with an accepted sheet, made by anyone, has a run that overdraws.
   pub safe : Safe f (checkOf f s)
-  safe e = let a = accepts .0 e in never-overdraws (setting f (a .0 .0)) (sheet f s) (a .1) (a .2)
+  safe e = let a = was-accepted checks e in never-overdraws (setting f (a .0 .0)) (sheet f s) (a .1) (a .2)
 
   -- an answer that is the computed one has its meaning too, and what it accepts is safe
   pub all-ensured : {r : Answer} → r ≡ checkOf f s → (r ≡ checkOf f s) × (Checks f s r × Safe f r)
-  all-ensured e = (e, (subst (Checks f s) (sym e) checks, λ p. safe (sym e ∙ p)))
-
--- the sheet of a file that passes is within the limits
-pub within : (f : List ℕ) → judgeOf f ≡ Pass → Within (shapeOf (tablesOf f))
-within f p = let l = limits f p in record { few-methods = l .methods; few-nodes = l .nodes; few-types = l .types }
+  all-ensured e = (e, (subst (Checks f s) (sym e) checks, λ p. safe (ap numberOf (sym e) ∙ p)))

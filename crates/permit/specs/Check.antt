@@ -6,19 +6,20 @@ use lib.ListN.{length}
 use lib.Dec.{ltb, eqb}
 use Rattle.words.specs.Lowest.{lowest}
 use Rattle.answer.specs.declared.Answer.{Answer}
-use Rattle.answer.specs.declared.Answer.the-variants.{Pass, BadSheet, BadBlock, Broken, Overdrawn}
+use Rattle.answer.specs.declared.Answer.the-variants.{Pass, BadSheet, BadBlock, Broken}
 use Rattle.answer.specs.Number.{numberOf}
 use Rattle.effect.specs.Whole.{coversOf}
 use Rattle.tables.specs.declared.Tables.{Tables}
 use Rattle.tables.specs.Trailer.{tablesOf}
 use Rattle.tables.specs.Kinds.{drawKind}
 use Rattle.tables.specs.Fields.{nodeKind, nodeNumber, nodeRights}
+use Rattle.graph.specs.Places.{overdrawnAt}
 use Rattle.graph.specs.Judge.{judgeOf}
+use Rattle.graph.specs.Judgement.{shapeOf}
 use Rattle.layout.specs.declared.Shape.{Shape}
 use Rattle.layout.specs.Layout.{blockCount, blockAt, sheetBytes}
 use Rattle.formed.specs.Ill.{firstIll}
 use Rattle.rules.specs.Broken.{brokenOf}
-use Rattle.rules.specs.Sheet.{shapeOf}
 use Rattle.listing.specs.Node.{isReached, nodeStock}
 
 -- node n is a draw that is reached and not covered
@@ -28,7 +29,7 @@ uncoveredAt f t x s n =
 
 -- 13 overdrawn, 0 pass
 abbrev pub verdictOf : List ℕ → Tables → Shape → List ℕ → Answer
-verdictOf f t x s = cond (ltb (lowest (uncoveredAt f t x s) (t .nodes)) (t .nodes)) (Overdrawn (lowest (uncoveredAt f t x s) (t .nodes))) Pass
+verdictOf f t x s = cond (ltb (lowest (uncoveredAt f t x s) (t .nodes)) (t .nodes)) (overdrawnAt f t (lowest (uncoveredAt f t x s) (t .nodes))) Pass
 
 -- 12 a sheet rule is broken, else the verdict
 unfoldable pub wholeSheet : List ℕ → Tables → Shape → List ℕ → Answer

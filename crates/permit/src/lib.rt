@@ -8,7 +8,6 @@ ghost use Rattle.words.specs.Lowest.{lowest};
 ghost use Rattle.answer.specs.declared.Answer.the-variants.{Pass};
 ghost use Rattle.graph.specs.Judge.{judgeIn};
 ghost use Rattle.layout.specs.Layout.{Within};
-ghost use Rattle.rules.specs.Sheet.{shapeOf};
 ghost use Rattle.permit.specs.Check.{uncoveredAt, verdictOf, judgedSheet, wholeSheet, checkOf};
 ghost use Rattle.permit.specs.Meaning.{Checks, Safe};
 
@@ -52,7 +51,7 @@ pub fn verdict(f: &[u8], t: Tables, x: Shape, s: &[u8]) -> Answer
 {
     let n = first_uncovered(f, t, x, s);
     if n < t.nodes as usize {
-        return Answer::Overdrawn(n as u16);
+        return graph::overdrawn_at(f, t, n as u16);
     }
     Answer::Pass
 }
@@ -84,27 +83,18 @@ fn of_judged(f: &[u8], t: Tables, x: Shape, s: &[u8]) -> Answer
     of_whole(f, t, x, s)
 }
 
-// The shape of the sheet of a file with the tables t.
-pub fn shape(t: Tables) -> Shape
-    ensures { λ r. ⌜ r ≡ shapeOf t ⌝ }
-{
-    Shape {
-        methods: t.methods as usize,
-        nodes: t.nodes as usize,
-        types: t.types as usize,
-    }
-}
-
 // The graph file f is judged first, and then the sheet s, whoever made it.
 pub fn check(f: &[u8], s: &[u8]) -> Answer
     ensures equals { λ r. ⌜ r ≡ checkOf (now (f .entry)) (now (s .entry)) ⌝ }
     ensures means { λ r. ⌜ Checks (now (f .entry)) (now (s .entry)) r ⌝ }
     ensures safe { λ r. ⌜ Safe (now (f .entry)) r ⌝ }
 {
-    let a = graph::judge(f);
+    let j = graph::judged(f);
+    let a = j.answer;
     if answer::number(a) == 0 {
-        let t = tables::read(f);
-        return of_judged(f, t, shape(t), s);
+        let t = j.tables;
+        let x = j.shape;
+        return of_judged(f, t, x, s);
     }
     a
 }

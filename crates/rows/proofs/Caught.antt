@@ -15,7 +15,7 @@ use Rattle.tables.specs.declared.Tables.{Tables}
 use Rattle.tables.specs.Fields.{catchFrom, catchException, catchTo}
 use Rattle.graph.specs.Judge.{judgeIn}
 use Rattle.graph.specs.Graph.{CatchRow, graphIn}
-use Rattle.graph.proofs.Judged.{judged}
+use Rattle.graph.proofs.Passed.{judged}
 use Rattle.refuse.proofs.Fit.{catch-fit}
 use Rattle.rows.specs.declared.Sorted.the-variants.{Catches}
 use Rattle.rows.specs.Rows.{keyOf, firstRow, catchAt, uncaughtOf}

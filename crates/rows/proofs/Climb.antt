@@ -11,7 +11,7 @@ use Rattle.answer.specs.declared.Answer.the-variants.{Pass}
 use Rattle.tables.specs.declared.Tables.{Tables}
 use Rattle.tables.specs.Fields.{flowFrom, callNode}
 use Rattle.graph.specs.Judge.{judgeIn}
-use Rattle.graph.proofs.Judged.{Judged, judged}
+use Rattle.graph.proofs.Passed.{Judged, judged}
 use Rattle.refuse.proofs.Fit.{flow-rises, call-rises, catch-fit, catch-rises}
 use Rattle.rows.specs.declared.Sorted.{Sorted}
 use Rattle.rows.specs.declared.Sorted.the-variants.{Flow, Calls, Catches}

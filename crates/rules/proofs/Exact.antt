@@ -13,9 +13,9 @@ use Rattle.answer.specs.declared.Answer.the-variants.{Pass}
 use Rattle.effect.specs.declared.Effect.{Effect}
 use Rattle.effect.specs.Whole.{thenOf, applyOf}
 use Rattle.model.specs.Machine.{Uncaught}
-use Rattle.model.specs.Rules.{Sheet, Below, AtMost, Rule}
+use Rattle.model.specs.Rules.{Sheet, Below, AtMost}
 use Rattle.model.specs.Rounds.{whole-rounds, earlier-rounds}
-use Rattle.model.specs.Stocks.{permits, stepOf}
+use Rattle.model.specs.Stocks.{permits}
 use Rattle.model.proofs.Demands.{Demands, demands, demanded}
 use Rattle.rounds.specs.Rounds.{roundsOf, wholeOf}
 use Rattle.tables.specs.declared.Tables.{Tables}
@@ -24,12 +24,13 @@ use Rattle.tables.specs.Kinds.{returnKind, throwKind}
 use Rattle.tables.specs.Fields.{nodeMethod, nodeKind, nodeNumber, nodeCount, flowFrom, flowTo, callNode, callMethod, catchFrom, catchException, catchTo}
 use Rattle.refuse.proofs.Fit.{node-fit, call-fit, catch-fit}
 use Rattle.graph.specs.Judge.{judgeOf}
+use Rattle.graph.specs.Judgement.{shapeOf}
 use Rattle.graph.specs.Graph.{graphOf}
-use Rattle.graph.proofs.Judged.{Judged, judged}
+use Rattle.graph.proofs.Passed.{Judged, judged}
 use Rattle.graph.proofs.Whole.{limits}
 use Rattle.rows.specs.Rows.{uncaughtOf}
 use Rattle.rows.proofs.Caught.{uncaught-true, uncaught-false}
-use Rattle.nodes.specs.Nodes.{doesIn, openingIn}
+use Rattle.nodes.specs.Nodes.{openingIn}
 use Rattle.nodes.proofs.Setting.{setting}
 use Rattle.layout.specs.declared.Shape.{Shape}
 use Rattle.layout.specs.Layout.{exitAt, nodeAt, blockCount}
@@ -40,7 +41,7 @@ use Rattle.rules.specs.declared.Source.{Source}
 use Rattle.rules.specs.declared.Source.the-variants.{Start, Entries, Flow, Catches, Nodes, Calls}
 use Rattle.rules.specs.Tests.{effectUnder, met, startUnder, afterCall, intoCall, caughtUnder}
 use Rattle.rules.specs.Broken.{brokenIf, leastOf, leavingBroken, thrownBroken, calledBroken, callBroken, nodeBroken, countOf, brokenAt, brokenIn, brokenOf}
-use Rattle.rules.specs.Sheet.{shapeOf, sheetIn}
+use Rattle.rules.specs.Sheet.{sheetIn, Holds}
 use Rattle.rules.proofs.Least.{least-under, least-hit}
 use Rattle.rules.proofs.Blocks.{mark-true, true-mark, exit-under, method-under}
 use Rattle.rules.proofs.Asked.{holds-above, fails-at, true-false}
@@ -392,14 +393,14 @@ module _ (f : List ℕ) (pass : judgeOf f ≡ Pass) (s : List ℕ) (whole : firs
       wrong (w .0) (h .0) (h .1) (brokenOf f t (shapeOf t) s) (h .2 ∙ w .1) low d
 
   -- so of the rules themselves
-  pub rules-below : (q : ℕ) → q < brokenOf f t (shapeOf t) s → Rule permits (graphOf f) (λ n. stepOf (doesIn f t n)) (openingIn f t) T q
+  pub rules-below : (q : ℕ) → q < brokenOf f t (shapeOf t) s → Holds f s q
   rules-below q l = demanded (setting f pass) T returns marked-of of-marked q (good q l)
 
-  pub rule-broken : brokenOf f t (shapeOf t) s < 11 → Rule permits (graphOf f) (λ n. stepOf (doesIn f t n)) (openingIn f t) T (brokenOf f t (shapeOf t) s) → ⊥
+  pub rule-broken : brokenOf f t (shapeOf t) s < 11 → Holds f s (brokenOf f t (shapeOf t) s) → ⊥
   rule-broken l r = bad l (demands (setting f pass) T returns marked-of of-marked _ r)
 
   -- there is no rule from 11 on
-  pub rules-beyond : (q : ℕ) → 11 ≤ q → Rule permits (graphOf f) (λ n. stepOf (doesIn f t n)) (openingIn f t) T q
+  pub rules-beyond : (q : ℕ) → 11 ≤ q → Holds f s q
   rules-beyond q h =
       demanded (setting f pass) T returns marked-of of-marked q
       (record {

@@ -17,7 +17,8 @@ use Rattle.tables.specs.Kinds.{drawKind, returnKind, throwKind}
 use Rattle.tables.specs.Fields.{entryOf, nodeMethod, nodeKind, nodeNumber, flowFrom, flowTo, catchFrom, catchException, catchTo}
 use Rattle.refuse.proofs.Fit.{entry-fit, node-fit, flow-fit, catch-fit}
 use Rattle.graph.specs.Judge.{judgeOf}
-use Rattle.graph.proofs.Judged.{Judged, judged}
+use Rattle.graph.specs.Judgement.{shapeOf}
+use Rattle.graph.proofs.Passed.{Judged, judged}
 use Rattle.rows.specs.declared.Sorted.the-variants as sorted
 use Rattle.rows.specs.Rows.{firstRow, keyOf, uncaughtOf}
 use Rattle.rows.proofs.Stretch.{in-stretch, of-stretch}
@@ -30,7 +31,7 @@ use Rattle.demand.specs.Demand.{entryDemand, flowDemand, catchDemand, returnDem
 use Rattle.rules.specs.declared.Leads.{Leads}
 use Rattle.rules.specs.declared.Leads.the-variants as leads
 use Rattle.rules.specs.Tests.{stockUnder, met, targetOf, targetUnder, allFor, afterCall, intoCall, caughtUnder}
-use Rattle.rules.specs.Sheet.{shapeOf, sheetIn}
+use Rattle.rules.specs.Sheet.{sheetIn}
 use Rattle.rules.proofs.Rows.{all-true, all-at}
 use Rattle.rules.proofs.Blocks.{mark-true, true-mark, node-under, exit-under, method-under}
 use Rattle.rules.proofs.Asked.{met-asked, met-unasked, if-true, if-make, first-true, second-true, choice-make}

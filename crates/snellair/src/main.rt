@@ -2,13 +2,14 @@
 // the rights and the count that a run brings at least.
 use answer::Answer;
 use effect::Stock;
+use graph::Judgement;
 use layout::Shape;
 use libc::STDIN_FILENO;
 use libc::STDOUT_FILENO;
 use tables::Tables;
 ghost use mathlib.Core.Path.{_≡_};
 ghost use Prim.Native.Nat.{_≤_};
-ghost use lib.ListN.{length};
+ghost use Rattle.graph.specs.Judgement.{judgedOf};
 ghost use Rattle.layout.specs.Layout.{Within};
 
 fn print(text: &[u8]) {
@@ -75,28 +76,24 @@ fn print_nodes(f: &[u8], t: Tables, x: Shape, s: &[u8])
     }
 }
 
-// The answer and the nodes, by way of the sheet s, which is as long as the shape x says.
-fn list_in(f: &[u8], x: Shape, s: &mut [u8])
-    requires { ⌜ Within x ⌝ }
+// The answer and the nodes, by way of the sheet s, which is as long as the judgement j of the file f says.
+fn list_in(f: &[u8], j: Judgement, s: &mut [u8])
+    requires { ⌜ (j ≡ judgedOf (now f)) × Within (j .shape) ⌝ }
 {
-    let a = work::work_out(f, s);
+    let a = work::of_judged(f, j, s);
     print_answer(a);
-    print_nodes(f, tables::read(f), x, s);
-}
-
-// Its length is all that is said of it, so that no proof has to look at its bytes.
-fn longest_sheet() -> [u8; 56064]
-    ensures { λ r. ⌜ 56064 ≡ length r ⌝ }
-{
-    [0; 56064]
+    let t = j.tables;
+    let x = j.shape;
+    print_nodes(f, t, x, s);
 }
 
 // The sheet is the part of the longest that the file asks for. A file that is refused asks for none, and has no nodes.
 fn list(f: &[u8]) {
-    let x = room::shape(f);
+    let j = graph::judged(f);
+    let x = j.shape;
     let end = layout::sheet_bytes(x);
-    let mut sheet = longest_sheet();
-    list_in(f, x, &mut sheet[..end]);
+    let mut sheet = layout::longest_sheet();
+    list_in(f, j, &mut sheet[..end]);
 }
 
 // One byte more than the longest file is read, and refused without a look at the rest.

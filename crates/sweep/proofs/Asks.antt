@@ -9,7 +9,7 @@ use Rattle.effect.specs.declared.Effect.{Effect}
 use Rattle.tables.specs.declared.Tables.{Tables}
 use Rattle.tables.specs.Fields.{nodeMethod, nodeNumber}
 use Rattle.refuse.proofs.Fit.{entry-fit, node-fit, flow-fit, catch-fit}
-use Rattle.graph.proofs.Judged.{judged}
+use Rattle.graph.proofs.Passed.{judged}
 use Rattle.layout.specs.declared.Shape.{Shape}
 use Rattle.layout.specs.Layout.{effectSize}
 use Rattle.demand.specs.declared.Demand.{Demand}

@@ -16,7 +16,8 @@ use Rattle.tables.specs.Trailer.{tablesOf}
 use Rattle.tables.specs.Fields.{nodeMethod, callNode, callMethod, catchTo}
 use Rattle.refuse.proofs.Fit.{flow-fit, call-fit, catch-fit}
 use Rattle.graph.specs.Judge.{judgeOf}
-use Rattle.graph.proofs.Judged.{Judged, judged}
+use Rattle.graph.specs.Judgement.{shapeOf}
+use Rattle.graph.proofs.Passed.{Judged, judged}
 use Rattle.rows.specs.declared.Sorted.the-variants as sorted
 use Rattle.rows.specs.Rows.{firstRow, uncaughtOf}
 use Rattle.rows.proofs.Stretch.{of-stretch}
@@ -29,7 +30,7 @@ use Rattle.demand.specs.Demand.{marked, calledIn, thrownIn}
 use Rattle.rules.specs.declared.Leads.{Leads}
 use Rattle.rules.specs.declared.Leads.the-variants as leads
 use Rattle.rules.specs.Tests.{targetOf, targetUnder, allFor, afterCall, intoCall, caughtUnder}
-use Rattle.rules.specs.Sheet.{shapeOf, sheetIn}
+use Rattle.rules.specs.Sheet.{sheetIn}
 use Rattle.rules.proofs.Blocks.{mark-true}
 use Rattle.rules.proofs.Exact.{method-of}
 use Rattle.lower.proofs.Good.{Stands, Good, Done}

@@ -7,8 +7,8 @@ use native.Mathlib.Omega.{arith}
 use Rattle.answer.specs.declared.Answer.the-variants.{Pass}
 use Rattle.tables.specs.Trailer.{tablesOf}
 use Rattle.graph.specs.Judge.{judgeOf}
+use Rattle.graph.specs.Judgement.{shapeOf}
 use Rattle.rules.specs.Tests.{allFor}
-use Rattle.rules.specs.Sheet.{shapeOf}
 use Rattle.lower.proofs.Good.{height, Good, Done}
 use Rattle.sweep.specs.Turn.{inTurn}
 

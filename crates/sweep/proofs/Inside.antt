@@ -9,7 +9,7 @@ use Rattle.tables.specs.Fields.{nodeMethod, callNode, callMethod}
 use Rattle.refuse.proofs.Fit.{node-fit, flow-fit, call-fit, catch-fit}
 use Rattle.answer.specs.declared.Answer.the-variants.{Pass}
 use Rattle.graph.specs.Judge.{judgeIn}
-use Rattle.graph.proofs.Judged.{judged}
+use Rattle.graph.proofs.Passed.{judged}
 use Rattle.graph.proofs.Whole.{Limits, limits}
 use Rattle.layout.specs.declared.Shape.{Shape}
 use Rattle.layout.specs.Layout.{stockSize, effectSize, methodAt, exitAt, nodeAt, sheetBytes, blockCount, blockSize, blockAt}

@@ -17,7 +17,8 @@ use Rattle.tables.specs.Trailer.{tablesOf}
 use Rattle.tables.specs.Fields.{entryOf, nodeMethod, nodeNumber, flowFrom, flowTo, catchFrom, catchException, catchTo}
 use Rattle.refuse.proofs.Fit.{entry-fit, node-fit, flow-fit, catch-fit}
 use Rattle.graph.specs.Judge.{judgeOf}
-use Rattle.graph.proofs.Judged.{Judged, judged}
+use Rattle.graph.specs.Judgement.{shapeOf}
+use Rattle.graph.proofs.Passed.{Judged, judged}
 use Rattle.graph.proofs.Whole.{limits}
 use Rattle.rows.proofs.Caught.{uncaught-true}
 use Rattle.nodes.specs.Nodes.{doesIn, openingIn}
@@ -27,7 +28,7 @@ use Rattle.layout.specs.Layout.{exitAt, nodeAt}
 use Rattle.demand.specs.declared.Demand.{Demand}
 use Rattle.demand.specs.Demand.{asked, unasked, entryDemand, flowDemand, catchDemand, nodeDemand}
 use Rattle.rules.specs.Tests.{effectUnder, met, startUnder}
-use Rattle.rules.specs.Sheet.{shapeOf, sheetIn}
+use Rattle.rules.specs.Sheet.{sheetIn}
 use Rattle.lower.specs.Lower.{effectTo}
 use Rattle.lower.proofs.Good.{Stands, Good, Done}
 use Rattle.lower.proofs.Stands.{nothing-stands, then-stands, step-stands, opening-stands, read-stands}

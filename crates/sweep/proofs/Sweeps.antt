@@ -8,11 +8,11 @@ use Rattle.answer.specs.declared.Answer.the-variants.{Pass}
 use Rattle.tables.specs.declared.Tables.{Tables}
 use Rattle.tables.specs.Trailer.{tablesOf}
 use Rattle.graph.specs.Judge.{judgeOf}
+use Rattle.graph.specs.Judgement.{shapeOf}
 use Rattle.layout.specs.declared.Shape.{Shape}
 use Rattle.rules.specs.declared.Source.{Source}
 use Rattle.rules.specs.declared.Source.the-variants.{Start, Entries, Flow, Catches, Nodes, Calls}
 use Rattle.rules.specs.Broken.{countOf}
-use Rattle.rules.specs.Sheet.{shapeOf}
 use Rattle.lower.proofs.Good.{Good, Done}
 use Rattle.sweep.specs.Turn.{turned}
 use Rattle.sweep.specs.Sweep.{sourceAt, rowTo, rowHolds, tableTo, tableHolds, sweepTo, sweepHolds}

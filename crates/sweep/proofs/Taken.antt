@@ -20,14 +20,15 @@ use Rattle.tables.specs.Trailer.{tablesOf}
 use Rattle.tables.specs.Fields.{nodeMethod, nodeCount, flowFrom, flowTo, callNode, callMethod}
 use Rattle.refuse.proofs.Fit.{call-fit}
 use Rattle.graph.specs.Judge.{judgeOf}
+use Rattle.graph.specs.Judgement.{shapeOf}
 use Rattle.graph.specs.Graph.{graphOf}
-use Rattle.graph.proofs.Judged.{judged}
+use Rattle.graph.proofs.Passed.{judged}
 use Rattle.nodes.proofs.Setting.{setting}
 use Rattle.layout.specs.declared.Shape.{Shape}
 use Rattle.layout.specs.Layout.{exitAt}
 use Rattle.demand.specs.declared.Called.{Called}
 use Rattle.demand.specs.Demand.{marked, calledIn, thrownIn}
-use Rattle.rules.specs.Sheet.{shapeOf, sheetIn}
+use Rattle.rules.specs.Sheet.{sheetIn}
 use Rattle.rules.proofs.Exact.{marked-of, of-marked, whole-is, earlier-is, called}
 use Rattle.lower.proofs.Good.{Stands, StockStands, Good}
 use Rattle.lower.proofs.Stands.{then-stands, apply-stands, whole-rounds-stands, earlier-rounds-stands, exit-read-stands, stock-read-stands}

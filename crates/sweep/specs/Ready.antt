@@ -7,11 +7,11 @@ use Rattle.answer.specs.declared.Answer.the-variants.{Pass}
 use Rattle.tables.specs.declared.Tables.{Tables}
 use Rattle.tables.specs.Trailer.{tablesOf}
 use Rattle.graph.specs.Judge.{judgeIn}
+use Rattle.graph.specs.Judgement.{shapeOf}
 use Rattle.layout.specs.declared.Shape.{Shape}
 use Rattle.layout.specs.Layout.{Within, sheetBytes}
 use Rattle.rules.specs.declared.Leads.{Leads}
 use Rattle.rules.specs.declared.Leads.the-variants.{Flow, Catches}
-use Rattle.rules.specs.Sheet.{shapeOf}
 
 pub record Ready (f : List ℕ) (t : Tables) (x : Shape) (s : List ℕ) : Type 0 where
   pub passed : judgeIn f t ≡ Pass

@@ -8,8 +8,8 @@ use Rattle.answer.specs.declared.Answer.{Answer}
 use Rattle.answer.specs.declared.Answer.the-variants.{Pass}
 use Rattle.tables.specs.Trailer.{tablesOf}
 use Rattle.graph.specs.Judge.{judgeOf}
+use Rattle.graph.specs.Judgement.{shapeOf}
 use Rattle.layout.specs.Layout.{sheetBytes}
-use Rattle.rules.specs.Sheet.{shapeOf}
 use Rattle.permit.specs.Check.{checkOf}
 use Rattle.permit.specs.Meaning as meaning
 use Rattle.permit.proofs.Meaning.{only}
@@ -19,12 +19,12 @@ use Rattle.work.proofs.Meaning.{overdraws, covered}
 module _ (f s r : List ℕ) where
   -- where neither the file nor the sheet is refused, the sheet is worked out, and check answers the same
   pub wrote : {a : Answer} → WorksOut f s r a → judgeOf f ≡ Pass → length s ≡ sheetBytes (shapeOf (tablesOf f)) → Worked f r × meaning.Checks f r a
-  wrote (refused n e) p l = absurd (n p)
-  wrote (wrong-length q n e) p l = absurd (n l)
-  wrote (overdrawn k w n o below) p l =
+  wrote (refused n e v) p l = absurd (n p)
+  wrote (wrong-length q n e v) p l = absurd (n l)
+  wrote (overdrawn k w n o below v) p l =
       let u = overdraws f r w n .1 o in
-      (w, meaning.overdrawn (w .well-formed) (w .obeys) n (u .0) (u .1) (λ m h. covered f r w m (below m h)))
-  wrote (passes k w o) p l = (w, meaning.accepted (w .well-formed) (w .obeys) (λ m. covered f r w m (o m)))
+      (w, meaning.overdrawn (w .well-formed) (w .obeys) n (u .0) (u .1) (λ m h. covered f r w m (below m h)) v)
+  wrote (passes k w o v) p l = (w, meaning.accepted (w .well-formed) (w .obeys) (λ m. covered f r w m (o m)) v)
 
   pub agree : {a : Answer} → WorksOut f s r a → judgeOf f ≡ Pass → length s ≡ sheetBytes (shapeOf (tablesOf f)) → checkOf f r ≡ a
   agree w p l = sym (only f r (wrote w p l .1))

@@ -10,30 +10,33 @@ use lib.ListN.{length, getD}
 use borrow.Author.Tests.{ltb-true, ltb-false}
 use Rattle.words.specs.Lowest.{lowest}
 use Rattle.words.proofs.Lowest.{is-lowest}
-use Rattle.answer.specs.declared.Answer.the-variants.{Pass, Overdrawn}
+use Rattle.answer.specs.declared.Answer.the-variants.{Pass}
+use Rattle.answer.proofs.Settled.{says}
 use Rattle.effect.specs.declared.Stock.{Stock}
 use Rattle.effect.specs.Coordinate.{Coordinate, right, count, at}
 use Rattle.model.specs.Rules.{Greatest}
-use Rattle.model.specs.Stocks.{permits, stepOf}
+use Rattle.model.specs.Stocks.{permits}
+use Rattle.model.specs.Program.{steps}
 use Rattle.model.proofs.Setting.{Told}
 use Rattle.model.proofs.Attained.{Attained}
 use Rattle.model.proofs.Exact.{greatest, reached, smallest, missing}
 use Rattle.tables.specs.declared.Tables.{Tables}
 use Rattle.tables.specs.Trailer.{tablesOf}
+use Rattle.graph.specs.Places.{overdrawnAt}
 use Rattle.graph.specs.Judge.{judgeOf}
-use Rattle.graph.specs.Graph.{graphOf}
-use Rattle.nodes.specs.Nodes.{doesIn, openingIn}
+use Rattle.graph.specs.Judgement.{shapeOf}
+use Rattle.nodes.specs.Program.{programOf, Brings, Overdrawing}
 use Rattle.nodes.proofs.Setting.{setting}
 use Rattle.layout.specs.declared.Shape.{Shape}
 use Rattle.layout.specs.Layout.{blockCount, sheetBytes}
 use Rattle.formed.specs.Ill.{illBlock, firstIll}
 use Rattle.rules.specs.Broken.{brokenOf}
-use Rattle.rules.specs.Sheet.{shapeOf, sheetIn}
+use Rattle.rules.specs.Sheet.{sheetIn, WellFormed, Holds, IsReached, stockIn}
 use Rattle.permit.specs.Check.{uncoveredAt}
-use Rattle.permit.specs.Meaning.{WellFormed, Holds, IsReached, IsCovered}
+use Rattle.permit.specs.Meaning.{IsCovered}
 use Rattle.permit.proofs.Draws.{uncovered-says, covered-says}
 use Rattle.permit.proofs.Meaning.{all-hold}
-use Rattle.work.specs.Meaning.{Brings, Overdrawing, stockIn, Worked, WorksOut, overdrawn, passes}
+use Rattle.work.specs.Meaning.{Worked, WorksOut, overdrawn, passes}
 
 module _ (f : List ℕ) where
   abbrev t : Tables
@@ -52,7 +55,7 @@ module _ (f : List ℕ) where
       obeys = all-hold f r formed (omega arith)
 
       -- It is the greatest of all sheets that obey, not only of those that are bytes.
-      pub greatest-of-all : Greatest permits (graphOf f) (λ n. stepOf (doesIn f t n)) (openingIn f t) (sheetIn x r)
+      pub greatest-of-all : Greatest permits (programOf f .graph) (steps (programOf f)) (programOf f .opening) (sheetIn x r)
       greatest-of-all = greatest (setting f pass) (sheetIn x r) obeys attained
 
       pub worked : Worked f r
@@ -107,7 +110,7 @@ module _ (f : List ℕ) where
 
   -- The verdict on the sheet that is written: the lowest reached draw that is not covered, if there is one.
   pub verdict : (s r : List ℕ) → length s ≡ sheetBytes x → Worked f r
-      → WorksOut f s r (cond (ltb (lowest (uncoveredAt f t x r) (t .nodes)) (t .nodes)) (Overdrawn (lowest (uncoveredAt f t x r) (t .nodes))) Pass)
+      → WorksOut f s r (cond (ltb (lowest (uncoveredAt f t x r) (t .nodes)) (t .nodes)) (overdrawnAt f t (lowest (uncoveredAt f t x r) (t .nodes))) Pass)
   verdict s r long w = go (ltb n (t .nodes)) refl
     where
       n : ℕ
@@ -118,8 +121,8 @@ module _ (f : List ℕ) where
           let u = overdraws r w m .1 o in
           u .1 (covered-says f r (w .well-formed .0) m (u .0 .0 .0) (is-lowest (uncoveredAt f t x r) (t .nodes) .before m k) (u .0))
 
-      go : (b : Bool) → ltb n (t .nodes) ≡ b → WorksOut f s r (cond b (Overdrawn n) Pass)
+      go : (b : Bool) → ltb n (t .nodes) ≡ b → WorksOut f s r (cond b (overdrawnAt f t n) Pass)
       go true e =
           let l = ltb-true n (t .nodes) e in
-          overdrawn long w n (overdraws r w n .0 (uncovered-says f r (w .well-formed .0) n l (is-lowest (uncoveredAt f t x r) (t .nodes) .found l))) below
-      go false e = passes long w (λ m o. below m (omega (arith, ltb-false n (t .nodes) e, overdraws r w m .1 o .0 .0 .0)) o)
+          overdrawn long w n (overdraws r w n .0 (uncovered-says f r (w .well-formed .0) n l (is-lowest (uncoveredAt f t x r) (t .nodes) .found l))) below (says (overdrawnAt f t n))
+      go false e = passes long w (λ m o. below m (omega (arith, ltb-false n (t .nodes) e, overdraws r w m .1 o .0 .0 .0)) o) (says Pass)

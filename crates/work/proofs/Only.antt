@@ -1,6 +1,6 @@
 -- For each file and each lent sheet there is no second answer and no second content.
 use Prim.Native.Nat.{ℕ, _*_, _%_, _≤_, _<_}
-use mathlib.Core.Path.{_≡_, refl, sym, ap, _∙_}
+use mathlib.Core.Path.{_≡_, sym, ap, _∙_}
 use mathlib.Core.List.{List}
 use native.Mathlib.Decide.{decLt, ℕ-discrete}
 use native.Mathlib.Omega.{arith}
@@ -8,10 +8,12 @@ use lib.ListN.{length}
 use borrow.Author.Tests.{lt-ltb, le-ltb, eq-eqb, ne-eqb}
 use Rattle.answer.specs.declared.Answer.{Answer}
 use Rattle.answer.specs.declared.Answer.the-variants.{Pass, BadSheet}
+use Rattle.answer.proofs.Settled.{says-only}
 use Rattle.model.specs.Rules.{Under}
 use Rattle.model.specs.Stocks.{permits}
 use Rattle.tables.specs.Trailer.{tablesOf}
 use Rattle.graph.specs.Judge.{judgeOf}
+use Rattle.graph.specs.Judgement.{shapeOf}
 use Rattle.graph.specs.Graph.{graphOf}
 use Rattle.graph.proofs.Whole.{limits}
 use Rattle.layout.specs.declared.Shape.{Shape}
@@ -19,9 +21,8 @@ use Rattle.layout.specs.Layout.{methodAt, exitAt, nodeAt, sheetBytes, blockCoun
 use Rattle.layout.proofs.Blocks.{at-method, at-exit, at-node}
 use Rattle.sheet.proofs.Same.{SameWords}
 use Rattle.formed.proofs.Judged.{Formed, formed}
-use Rattle.rules.specs.Sheet.{shapeOf}
+use Rattle.rules.specs.Sheet.{sheet}
 use Rattle.permit.specs.Check.{checkOf}
-use Rattle.permit.specs.Meaning.{sheet}
 use Rattle.work.specs.Meaning.{Worked, WorksOut, refused, wrong-length, overdrawn, passes}
 use Rattle.work.proofs.Agree.{wrote, agree}
 use Rattle.work.proofs.Words.{same-sheet}
@@ -83,16 +84,16 @@ module _ (f : List ℕ) where
 
   module _ (s : List ℕ) where
     if-refused : {r : List ℕ} {a : Answer} → (judgeOf f ≡ Pass → ⊥) → WorksOut f s r a → (a ≡ judgeOf f) × (r ≡ s)
-    if-refused n (refused m e) = (refl, e)
-    if-refused n (wrong-length p m e) = absurd (n p)
-    if-refused n (overdrawn l w m o h) = absurd (n (w .well-formed .0))
-    if-refused n (passes l w o) = absurd (n (w .well-formed .0))
+    if-refused n (refused m e v) = (says-only (judgeOf f) v, e)
+    if-refused n (wrong-length p m e v) = absurd (n p)
+    if-refused n (overdrawn l w m o h v) = absurd (n (w .well-formed .0))
+    if-refused n (passes l w o v) = absurd (n (w .well-formed .0))
 
     if-wrong : {r : List ℕ} {a : Answer} → judgeOf f ≡ Pass → (length s ≡ sheetBytes x → ⊥) → WorksOut f s r a → (a ≡ BadSheet) × (r ≡ s)
-    if-wrong p n (refused m e) = absurd (m p)
-    if-wrong p n (wrong-length _ m e) = (refl, e)
-    if-wrong p n (overdrawn l w m o h) = absurd (n l)
-    if-wrong p n (passes l w o) = absurd (n l)
+    if-wrong p n (refused m e v) = absurd (m p)
+    if-wrong p n (wrong-length _ m e v) = (says-only BadSheet v, e)
+    if-wrong p n (overdrawn l w m o h v) = absurd (n l)
+    if-wrong p n (passes l w o v) = absurd (n l)
 
     if-worked : {r q : List ℕ} {a b : Answer} → judgeOf f ≡ Pass → length s ≡ sheetBytes x → WorksOut f s r a → WorksOut f s q b → (a ≡ b) × (r ≡ q)
     if-worked {r} {q} p l v w =
@@ -100,7 +101,7 @@ module _ (f : List ℕ) where
         (sym (agree f s r v p l) ∙ ap (checkOf f) e ∙ agree f s q w p l, e)
 
     pub only : (r q : List ℕ) {a b : Answer} → WorksOut f s r a → WorksOut f s q b → (a ≡ b) × (r ≡ q)
-    only r q (refused n e) w = let u = if-refused n w in (sym (u .0), e ∙ sym (u .1))
-    only r q (wrong-length p n e) w = let u = if-wrong p n w in (sym (u .0), e ∙ sym (u .1))
-    only r q (overdrawn l v n o h) w = if-worked (v .well-formed .0) l (overdrawn l v n o h) w
-    only r q (passes l v o) w = if-worked (v .well-formed .0) l (passes l v o) w
+    only r q (refused n e v) w = let u = if-refused n w in (says-only (judgeOf f) v ∙ sym (u .0), e ∙ sym (u .1))
+    only r q (wrong-length p n e v) w = let u = if-wrong p n w in (says-only BadSheet v ∙ sym (u .0), e ∙ sym (u .1))
+    only r q (overdrawn l k n o h v) w = if-worked (k .well-formed .0) l (overdrawn l k n o h v) w
+    only r q (passes l k o v) w = if-worked (k .well-formed .0) l (passes l k o v) w

@@ -5,13 +5,14 @@ use mathlib.Core.Bool.{Bool, true, false}
 use mathlib.Core.List.{List}
 use lib.ListN.{length}
 use Rattle.answer.specs.declared.Answer.the-variants.{Pass, BadSheet}
+use Rattle.answer.proofs.Settled.{says}
 use Rattle.tables.specs.declared.Tables.{Tables}
 use Rattle.tables.specs.Trailer.{tablesOf}
 use Rattle.graph.specs.Judge.{judgeIn, judgeOf}
+use Rattle.graph.specs.Judgement.{shapeOf}
 use Rattle.layout.specs.declared.Shape.{Shape}
 use Rattle.layout.specs.Layout.{Within, sheetBytes}
 use Rattle.sheet.specs.Write.{blanked}
-use Rattle.rules.specs.Sheet.{shapeOf}
 use Rattle.permit.specs.Check.{verdictOf}
 use Rattle.lower.proofs.Good.{height, Good}
 use Rattle.lower.proofs.Block.{blank-good}
@@ -74,4 +75,4 @@ module _ {f : List ℕ} {t : Tables} {x : Shape} {s : List ℕ} (fit : Fitting f
   pub refused-length : (length s ≡ sheetBytes x → ⊥) → WorksOut f s s BadSheet
   refused-length n =
       wrong-length (subst (λ y. judgeIn f y ≡ Pass) (fit .1) (fit .0))
-      (λ l. n (subst (λ y. length s ≡ sheetBytes y) (sym (fit .3)) (subst (λ y. length s ≡ sheetBytes (shapeOf y)) (sym (fit .1)) l))) refl
+      (λ l. n (subst (λ y. length s ≡ sheetBytes y) (sym (fit .3)) (subst (λ y. length s ≡ sheetBytes (shapeOf y)) (sym (fit .1)) l))) refl (says BadSheet)

@@ -1,14 +1,15 @@
 // Work out: a graph file in, the verdict and the permission sheet out.
 use answer::Answer;
+use graph::Judgement;
 use layout::Shape;
 use tables::Tables;
 ghost use mathlib.Core.Path.{_≡_};
 ghost use Rattle.answer.specs.declared.Answer.the-variants.{Pass};
 ghost use Rattle.tables.specs.Trailer.{tablesOf};
 ghost use Rattle.graph.specs.Judge.{judgeIn};
+ghost use Rattle.graph.specs.Judgement.{shapeOf, judgedOf};
 ghost use Rattle.layout.specs.Layout.{Within};
 ghost use Rattle.sheet.specs.Write.{blanked};
-ghost use Rattle.rules.specs.Sheet.{shapeOf};
 ghost use Rattle.sweep.specs.Ready.{Ready};
 ghost use Rattle.work.specs.Swept.{Settled};
 ghost use Rattle.work.specs.Meaning.{WorksOut};
@@ -26,7 +27,7 @@ fn settle(f: &[u8], t: Tables, x: Shape, s: &mut [u8])
 }
 
 // The sheet of a file that passes.
-fn of_judged(f: &[u8], t: Tables, x: Shape, s: &mut [u8]) -> Answer
+fn of_passed(f: &[u8], t: Tables, x: Shape, s: &mut [u8]) -> Answer
     requires { ⌜ (judgeIn (now f) t ≡ Pass) × (t ≡ tablesOf (now f)) × Within x × (x ≡ shapeOf t) ⌝ }
     ensures { λ r. ⌜ WorksOut (now (f .entry)) (now (s .entry)) (now (s .exit)) r ⌝ }
 {
@@ -37,14 +38,24 @@ fn of_judged(f: &[u8], t: Tables, x: Shape, s: &mut [u8]) -> Answer
     permit::verdict(f, t, x, s)
 }
 
+// Work out for a file that has been judged, so that whoever lends the sheet judges it once.
+pub fn of_judged(f: &[u8], j: Judgement, s: &mut [u8]) -> Answer
+    requires { ⌜ j ≡ judgedOf (now f) ⌝ }
+    ensures { λ r. ⌜ WorksOut (now (f .entry)) (now (s .entry)) (now (s .exit)) r ⌝ }
+{
+    let a = j.answer;
+    if answer::number(a) == 0 {
+        let t = j.tables;
+        let x = j.shape;
+        return of_passed(f, t, x, s);
+    }
+    a
+}
+
 // The graph file f is judged; if it passes, the sheet is written. Else the sheet is left as it was.
 pub fn work_out(f: &[u8], s: &mut [u8]) -> Answer
     ensures { λ r. ⌜ WorksOut (now (f .entry)) (now (s .entry)) (now (s .exit)) r ⌝ }
 {
-    let a = graph::judge(f);
-    if answer::number(a) == 0 {
-        let t = tables::read(f);
-        return of_judged(f, t, permit::shape(t), s);
-    }
-    a
+    let j = graph::judged(f);
+    of_judged(f, j, s)
 }

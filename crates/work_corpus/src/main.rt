@@ -1,10 +1,11 @@
 // Works out each of the graph files that its arguments name. Prints the name, the answer's number and its place, and then each
 // marked block of the sheet: the number of its first word, and its words.
+use graph::Judgement;
 use layout::Shape;
 use libc::STDOUT_FILENO;
 ghost use mathlib.Core.Path.{_≡_};
 ghost use Prim.Native.Nat.{_<_, _≤_};
-ghost use lib.ListN.{length};
+ghost use Rattle.graph.specs.Judgement.{judgedOf};
 ghost use Rattle.layout.specs.Layout.{Within};
 
 fn print_number(n: u64) {
@@ -43,31 +44,26 @@ fn print_blocks(x: Shape, s: &[u8])
     }
 }
 
-// The sheet s is as long as the shape x says.
-fn work_out_in(name: &[u8], f: &[u8], x: Shape, s: &mut [u8])
-    requires { ⌜ Within x ⌝ }
+// The sheet s is as long as the judgement j of the file f says.
+fn work_out_in(name: &[u8], f: &[u8], j: Judgement, s: &mut [u8])
+    requires { ⌜ (j ≡ judgedOf (now f)) × Within (j .shape) ⌝ }
 {
-    let a = work::work_out(f, s);
+    let a = work::of_judged(f, j, s);
     io::write_all(STDOUT_FILENO, name);
     print_next(answer::number(a) as u64);
     print_next(answer::place(a) as u64);
     end_line();
+    let x = j.shape;
     print_blocks(x, s);
-}
-
-// Its length is all that is said of it, so that no proof has to look at its bytes.
-fn longest_sheet() -> [u8; 56064]
-    ensures { λ r. ⌜ 56064 ≡ length r ⌝ }
-{
-    [0; 56064]
 }
 
 // The sheet is the part of the longest that the file asks for. A file that is refused asks for none, and has no blocks.
 fn work_out(name: &[u8], f: &[u8]) {
-    let x = room::shape(f);
+    let j = graph::judged(f);
+    let x = j.shape;
     let end = layout::sheet_bytes(x);
-    let mut sheet = longest_sheet();
-    work_out_in(name, f, x, &mut sheet[..end]);
+    let mut sheet = layout::longest_sheet();
+    work_out_in(name, f, j, &mut sheet[..end]);
 }
 
 fn work_out_open(name: &[u8], fd: i32) {

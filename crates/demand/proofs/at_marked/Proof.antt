@@ -6,7 +6,7 @@ use borrow.Author.Tests.{eq-eqb, ne-eqb}
 use Rattle.tables.specs.Fields.{nodeKind}
 use Rattle.tables.specs.Kinds.{returnKind, throwKind}
 use Rattle.refuse.proofs.Fit.{node-fit}
-use Rattle.graph.proofs.Judged.{judged}
+use Rattle.graph.proofs.Passed.{judged}
 use Rattle.demand.specs.Demand.{leaveDemand}
 use Rattle.demand.proofs.at_marked.Statement.{statement}
 use Rattle.demand.proofs.at_marked.Tie as tie

@@ -11,22 +11,21 @@ returns c = simp (lt-ltb _ _ (c .if1 .taken))
 returns-2 : tie.Need-returns-2
 unfolding judgeIn
 returns-2 c =
-    let e = c .before .before .before in
-    simp (le-ltb _ _ (e .before .if1 .left), ← e .read .ensures, ← c .before .before .length-bad .ensures, c .before .if2 .taken) (c .refused .ensures)
+    let bad = c .before .before in
+    simp (le-ltb _ _ (bad .before .if1 .left), ← bad .length-bad .ensures, c .before .if2 .taken) (c .refused .ensures)
 
 returns-3 : tie.Need-returns-3
 unfolding judgeIn
 returns-3 c =
-    let l = c .before .before in
-    let e = l .before .before in
-    simp (le-ltb _ _ (e .before .if1 .left), ← e .read .ensures, ← l .before .length-bad .ensures, l .if2 .left, ← c .before .judge-rows .ensures) (c .refused2 .ensures)
+    let left = c .before .before in
+    let bad = left .before in
+    simp (le-ltb _ _ (bad .before .if1 .left), ← bad .length-bad .ensures, left .if2 .left, ← c .before .judge-rows .ensures) (c .refused2 .ensures)
 
 pub judge-spec : {M : Type 1} → statement M
 judge-spec =
     tie.close
     (tie.spec
     returns
-    (λ c κs. search needs)
     (λ c κs. search needs)
     (λ c κs. search needs)
     returns-2

@@ -5,17 +5,18 @@ use denote.Ref.{now}
 use borrow.Author.Needs.{needs}
 use borrow.Author.Tests.{lt-ltb, le-ltb}
 use Rattle.words.specs.Lowest.{lowest}
-use Rattle.answer.specs.declared.Answer.the-variants.{Overdrawn}
+use Rattle.graph.specs.Places.{overdrawnAt}
 use Rattle.permit.specs.Check.{uncoveredAt}
 use Rattle.permit.proofs.verdict.Statement.{statement}
 use Rattle.permit.proofs.verdict.Tie as tie
 
 returns : tie.Need-returns
 returns c =
-    let first = c .before .before in
+    let test = c .before in
+    let first = test .before .before in
     let a = first .before .before .before .args in
-    let k : lowest (uncoveredAt (now (a .f)) (a .t) (a .x) (now (a .s))) (a .t .nodes) < a .t .nodes = rw (← first .first-uncovered .ensures .0) (c .if1 .taken) in
-    ap Overdrawn (first .first-uncovered .ensures .0) ∙ simp (lt-ltb _ _ k)
+    let k : lowest (uncoveredAt (now (a .f)) (a .t) (a .x) (now (a .s))) (a .t .nodes) < a .t .nodes = rw (← first .first-uncovered .ensures .0) (test .if1 .taken) in
+    c .overdrawn-at .ensures ∙ ap (overdrawnAt (now (a .f)) (a .t)) (first .first-uncovered .ensures .0) ∙ simp (lt-ltb _ _ k)
 
 returns-2 : tie.Need-returns-2
 returns-2 c =
@@ -31,5 +32,6 @@ verdict-spec =
     (λ c κs. c .before .before .pre)
     (λ c. search needs)
     (λ c. omega (arith, c .before .before .first-uncovered .ensures .1))
+    (λ c κs. search needs)
     returns
     returns-2)

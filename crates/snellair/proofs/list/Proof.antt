@@ -10,7 +10,7 @@ use Rattle.snellair.proofs.list.Tie as tie
 
 fits : tie.Need-array-borrow-prefix-sheet
 unfolding sheetBytes
-fits c = omega (arith, sheet-le (c .before .before .shape .ensures .1))
+fits c = omega (arith, sheet-le (c .before .before .before .judged .ensures .1 .1))
 
 pub list-spec : {M : Type 1} → statement M
 list-spec =

@@ -1,36 +1,44 @@
-use mathlib.Core.Path.{sym, _∙_}
+use mathlib.Core.Path.{_≡_, refl, sym, ap, subst, _∙_}
+use denote.Ref.{now}
 use borrow.Author.Needs.{needs}
-use Rattle.work.proofs.Sweeping.{make-ready, refused-length, answers}
+use Rattle.answer.specs.declared.Answer.the-variants.{Pass}
+use Rattle.answer.specs.Number.{numberOf}
+use Rattle.answer.proofs.Unpack.{zero-pass}
+use Rattle.answer.proofs.Settled.{says}
+use Rattle.graph.specs.Judge.{judgeIn, judgeOf}
+use Rattle.graph.specs.Judgement.{shapeOf}
+use Rattle.graph.proofs.Whole.{own-shape, within}
+use Rattle.layout.specs.Layout.{Within}
+use Rattle.work.specs.Meaning.{WorksOut, refused}
 use Rattle.work.proofs.of_judged.Statement.{statement}
 use Rattle.work.proofs.of_judged.Tie as tie
 
-returns : tie.Need-returns
-returns c =
-    let size = c .before in
-    let a = size .before .before .before in
-    refused-length (a .pre) (λ e. c .if1 .taken (e ∙ sym (size .sheet-bytes .ensures)))
-
-settle-requires : tie.Need-settle-requires
-settle-requires c κs =
-    let size = c .before .before in
-    let a = size .before .before .before in
-    make-ready (a .pre) (c .before .if1 .left ∙ size .sheet-bytes .ensures)
+of-passed-requires : tie.Need-of-passed-requires
+of-passed-requires c κs =
+    let test = c .before .before .before in
+    let number = test .before in
+    let a = number .before .before .before in
+    let f = now (a .args .f) in
+    let p : judgeOf f ≡ Pass = zero-pass _ (ap (λ x. numberOf (x .answer)) (sym (a .pre)) ∙ sym (number .number .ensures) ∙ test .if1 .taken) in
+    let t = ap (λ x. x .tables) (a .pre) in
+    let x = ap (λ y. y .shape) (a .pre) ∙ own-shape f p in
+    (ap (judgeIn f) t ∙ p, t, subst Within (sym x) (within f p), x ∙ ap shapeOf (sym t))
 
 returns-2 : tie.Need-returns-2
 returns-2 c =
-    let settle = c .before .before .before .before in
-    let size = settle .before .before .before in
-    let a = size .before .before .before in
-    let ready = make-ready (a .pre) (settle .before .before .if1 .left ∙ size .sheet-bytes .ensures) in
-    rw (c .verdict .ensures) (answers ready (settle .settle .ensures))
+    let number = c .before in
+    let a = number .before .before .before in
+    let f = now (a .args .f) in
+    let e = ap (λ x. x .answer) (a .pre) in
+    let n : judgeOf f ≡ Pass → ⊥ = λ p. c .if1 .left (number .number .ensures ∙ ap numberOf (e ∙ p)) in
+    refused n refl (rw e (says (judgeOf f)))
 
 pub of-judged-spec : {M : Type 1} → statement M
 of-judged-spec =
     tie.close
     (tie.spec
-    (λ c κs. c .before .before .pre .2)
-    returns
-    settle-requires
-    (λ c κs. c .before .before .before .before .before .before .before .before .before .pre .2)
+    (λ c κs. search needs)
+    of-passed-requires
     (λ c. search needs)
+    (λ c. c .before .before .of-passed .ensures)
     returns-2)

@@ -10,7 +10,7 @@ use Rattle.work_corpus.proofs.work_out.Tie as tie
 
 fits : tie.Need-array-borrow-prefix-sheet
 unfolding sheetBytes
-fits c = omega (arith, sheet-le (c .before .before .shape .ensures .1))
+fits c = omega (arith, sheet-le (c .before .before .before .judged .ensures .1 .1))
 
 pub work-out-spec : {M : Type 1} → statement M
 work-out-spec =

@@ -10,10 +10,11 @@ use borrow.Author.Tests.{ltb-false}
 use Rattle.words.specs.Lowest.{lowest}
 use Rattle.words.proofs.Lowest.{NoneBelow, none-found}
 use Rattle.answer.specs.declared.Answer.{Answer}
-use Rattle.answer.specs.declared.Answer.the-variants.{Pass, TooShort, BadCount, BadLength, BadEntry, BadNode, BadFlow, BadCall, BadCatch, BadOpening}
+use Rattle.answer.specs.declared.Answer.the-variants.{Pass, TooShort, BadCount, BadLength, BadEntry, BadFlow, BadCall, BadCatch, BadOpening}
 use Rattle.answer.specs.Number.{numberOf}
 use Rattle.tables.specs.declared.Tables.{Tables}
 use Rattle.refuse.specs.Bad.{countBad, lengthBad, entryBad, nodeBad, flowBad, callBad, catchBad, openingBad}
+use Rattle.graph.specs.Places.{badNodeAt}
 use Rattle.graph.specs.Judge.{refused, judgeRows, judgeIn}
 
 -- a refusal does not pass, so what comes next does
@@ -45,7 +46,7 @@ judged f t h =
     let w2 = rows-pass _ _ BadCount _ (w1 .1) (λ k. lit< tt) in
     let w3 = cond-pass _ BadLength _ (w2 .1) (lit< tt) in
     let w4 = rows-pass _ _ BadEntry _ (w3 .1) (λ k. lit< tt) in
-    let w5 = rows-pass _ _ BadNode _ (w4 .1) (λ k. lit< tt) in
+    let w5 = rows-pass _ _ (badNodeAt f t) _ (w4 .1) (λ k. lit< tt) in
     let w6 = rows-pass _ _ BadFlow _ (w5 .1) (λ k. lit< tt) in
     let w7 = rows-pass _ _ BadCall _ (w6 .1) (λ k. lit< tt) in
     let w8 = rows-pass _ _ BadCatch _ (w7 .1) (λ k. lit< tt) in
@@ -67,14 +68,14 @@ judge-few f t =
     let a8 = refused (catchBad f t) (t .catches) BadCatch a9 in
     let a7 = refused (callBad f t) (t .calls) BadCall a8 in
     let a6 = refused (flowBad f t) (t .flows) BadFlow a7 in
-    let a5 = refused (nodeBad f t) (t .nodes) BadNode a6 in
+    let a5 = refused (nodeBad f t) (t .nodes) (badNodeAt f t) a6 in
     let a4 = refused (entryBad f t) (t .methods) BadEntry a5 in
     let a3 = cond (lengthBad f t) BadLength a4 in
     let w9 = rows-few (openingBad f t) (t .types) BadOpening Pass (λ k. omega arith) (omega arith) in
     let w8 = rows-few (catchBad f t) (t .catches) BadCatch a9 (λ k. omega arith) w9 in
     let w7 = rows-few (callBad f t) (t .calls) BadCall a8 (λ k. omega arith) w8 in
     let w6 = rows-few (flowBad f t) (t .flows) BadFlow a7 (λ k. omega arith) w7 in
-    let w5 = rows-few (nodeBad f t) (t .nodes) BadNode a6 (λ k. omega arith) w6 in
+    let w5 = rows-few (nodeBad f t) (t .nodes) (badNodeAt f t) a6 (λ k. omega arith) w6 in
     let w4 = rows-few (entryBad f t) (t .methods) BadEntry a5 (λ k. omega arith) w5 in
     let w3 = few (lengthBad f t) BadLength a4 (omega arith) w4 in
     few (ltb (length f) 14) TooShort (refused (countBad f) 6 BadCount a3) (omega arith) (rows-few (countBad f) 6 BadCount a3 (λ k. omega arith) w3)

@@ -1,0 +1,128 @@
+-- The judge's answer is the first that applies, and there is no second answer of which that can be said.
+use Prim.Native.Nat.{ℕ, suc, _<_}
+use mathlib.Core.Path.{_≡_, refl, sym, subst, _∙_}
+use mathlib.Core.Bool.{Bool, true, false, cond, true≢false}
+use mathlib.Core.Logic.{inl, inr}
+use mathlib.Core.List.{List}
+use native.Mathlib.Decide.{decLt}
+use native.Mathlib.Omega.{arith}
+use lib.ListN.{length}
+use lib.Dec.{ltb}
+use borrow.Author.Tests.{ltb-true, ltb-false, lt-ltb}
+use Rattle.words.specs.Lowest.{lowest}
+use Rattle.words.proofs.Lowest.{is-lowest, none-found}
+use Rattle.answer.specs.declared.Answer.{Answer}
+use Rattle.answer.specs.declared.Answer.the-variants.{Pass, TooShort, BadCount, BadLength, BadEntry, BadNode, BadFlow, BadCall, BadCatch, BadOpening, BadSheet, BadBlock, Broken, Overdrawn}
+use Rattle.answer.specs.Number.{numberOf, placeOf, Says}
+use Rattle.answer.proofs.Settled.{answerOf, found, settled, says-only, says}
+use Rattle.tables.specs.declared.Tables.{Tables}
+use Rattle.tables.specs.Trailer.{tablesOf}
+use Rattle.refuse.specs.Bad.{countBad, lengthBad, entryBad, nodeBad, flowBad, callBad, catchBad, openingBad}
+use Rattle.graph.specs.Places.{badNodeAt}
+use Rattle.graph.specs.Judge.{refused, judgeRows, judgeIn, judgeOf}
+use Rattle.graph.specs.Meaning.{Given, Before, Judges, refuses, passes}
+
+module _ (f : List ℕ) where
+  abbrev t : Tables
+  t = tablesOf f
+
+  -- only the numbers 1 to 9 are about the file
+  about-file : (b : Answer) → Given f t b → (0 < numberOf b) × (numberOf b < 10)
+  about-file Pass g = absurd g
+  about-file TooShort g = (omega arith, omega arith)
+  about-file (BadCount i) g = (omega arith, omega arith)
+  about-file BadLength g = (omega arith, omega arith)
+  about-file (BadEntry k) g = (omega arith, omega arith)
+  about-file (BadNode k) g = (omega arith, omega arith)
+  about-file (BadFlow k) g = (omega arith, omega arith)
+  about-file (BadCall k) g = (omega arith, omega arith)
+  about-file (BadCatch k) g = (omega arith, omega arith)
+  about-file (BadOpening k) g = (omega arith, omega arith)
+  about-file BadSheet g = absurd g
+  about-file (BadBlock w) g = absurd g
+  about-file (Broken r) g = absurd g
+  about-file (Overdrawn n) g = absurd g
+
+  -- no refusal with a number below c applies
+  abbrev NoneTo : ℕ → Type 0
+  NoneTo c = (b : Answer) → numberOf b < c → Given f t b → ⊥
+
+  module _ (c : ℕ) (answer : ℕ → Answer) (own : (k : ℕ) → answerOf c k ≡ answer k) (none : NoneTo c) where
+    -- an answer with the number c is the one for its place
+    at-place : (b : Answer) → numberOf b ≡ c → Given f t b → Given f t (answer (placeOf b))
+    at-place b e = subst (Given f t) (sym (found b) ∙ (λ i. answerOf (e i) (placeOf b)) ∙ own (placeOf b))
+
+    -- where none of them applies either, none up to c does
+    none-more : ((k : ℕ) → Given f t (answer k) → ⊥) → NoneTo (suc c)
+    none-more h b l g = elim (decLt (numberOf b) c) [
+      | yes k ↦ none b k g
+      | no k ↦ h (placeOf b) (at-place b (omega arith) g)
+    ]
+
+    -- the first is the one with the lowest place
+    first : (k : ℕ) → Says (answer k) c k → Given f t (answer k) → ((j : ℕ) → j < k → Given f t (answer j) → ⊥) → Judges f (answer k)
+    first k s g low = refuses g go
+      where
+        go : (b : Answer) → Before b (answer k) → Given f t b → ⊥
+        go b (inl l) = none b (omega (arith, s .number-is))
+        go b (inr l) = λ h. low (placeOf b) (omega (arith, l .1, s .place-is)) (at-place b (l .0 ∙ s .number-is) h)
+
+    -- a table whose rows are refused by the test `bad`
+    rows-judge : (bad : ℕ → Bool) (n : ℕ) (next : Answer) → ((k : ℕ) → Says (answer k) c k) → ((k : ℕ) → k < n → bad k ≡ true → Given f t (answer k))
+        → ((k : ℕ) → Given f t (answer k) → (k < n) × (bad k ≡ true)) → (NoneTo (suc c) → Judges f next) → Judges f (refused bad n answer next)
+    rows-judge bad n next s make back later = go (ltb (lowest bad n) n) refl
+      where
+        go : (v : Bool) → ltb (lowest bad n) n ≡ v → Judges f (cond v (answer (lowest bad n)) next)
+        go true e =
+            let l = ltb-true (lowest bad n) n e in
+            first (lowest bad n) (s _) (make _ l (is-lowest bad n .found l)) (λ j k g. true≢false (sym (back j g .1) ∙ is-lowest bad n .before j k))
+        go false e = later (none-more (λ k g. true≢false (sym (back k g .1) ∙ none-found bad n e k (back k g .0))))
+
+    -- a test of the whole file
+    file-judge : (bad : Bool) (next : Answer) → Says (answer 0) c 0 → (bad ≡ true → Given f t (answer 0)) → ((k : ℕ) → Given f t (answer k) → bad ≡ true)
+        → (NoneTo (suc c) → Judges f next) → Judges f (cond bad (answer 0) next)
+    file-judge bad next s make back later = go bad refl
+      where
+        go : (v : Bool) → bad ≡ v → Judges f (cond v (answer 0) next)
+        go true e = first 0 s (make e) (λ j k g. absurd (omega arith))
+        go false e = later (none-more (λ k g. true≢false (sym (back k g) ∙ e)))
+
+  -- The judge's answer is the first that applies.
+  pub judges : Judges f (judgeOf f)
+  unfolding judgeIn judgeRows
+  judges =
+      file-judge 1 (λ k. TooShort) (λ k. refl) (λ b l g. omega (arith, about-file b g .0)) _ _ (says TooShort) (ltb-true (length f) 14) (λ k g. lt-ltb (length f) 14 g)
+      (λ n1. rows-judge 2 BadCount (λ k. refl) n1 _ _ _ (λ k. says (BadCount k)) (λ k l h. (l, h)) (λ k g. g)
+      (λ n2. file-judge 3 (λ k. BadLength) (λ k. refl) n2 _ _ (says BadLength) (λ h. h) (λ k g. g)
+      (λ n3. rows-judge 4 BadEntry (λ k. refl) n3 _ _ _ (λ k. says (BadEntry k)) (λ k l h. (l, h)) (λ k g. g)
+      (λ n4. rows-judge 5 (badNodeAt f t) (λ k. refl) n4 _ _ _ (λ k. says (badNodeAt f t k)) (λ k l h. (l, h)) (λ k g. g)
+      (λ n5. rows-judge 6 BadFlow (λ k. refl) n5 _ _ _ (λ k. says (BadFlow k)) (λ k l h. (l, h)) (λ k g. g)
+      (λ n6. rows-judge 7 BadCall (λ k. refl) n6 _ _ _ (λ k. says (BadCall k)) (λ k l h. (l, h)) (λ k g. g)
+      (λ n7. rows-judge 8 BadCatch (λ k. refl) n7 _ _ _ (λ k. says (BadCatch k)) (λ k l h. (l, h)) (λ k g. g)
+      (λ n8. rows-judge 9 BadOpening (λ k. refl) n8 _ _ _ (λ k. says (BadOpening k)) (λ k l h. (l, h)) (λ k g. g)
+      (λ n9. passes (λ b g. n9 b (about-file b g .1) g) (says Pass))))))))))
+
+  -- Two answers of which that can be said are one.
+  same : {a b : Answer} → Judges f a → Judges f b → a ≡ b
+  same {a} {b} (refuses g h) (refuses k l) = elim (decLt (numberOf a) (numberOf b)) [
+    | yes u ↦ absurd (l a (inl u) g)
+    | no u ↦ elim (decLt (numberOf b) (numberOf a)) [
+      | yes v ↦ absurd (h b (inl v) k)
+      | no v ↦
+          let e : numberOf a ≡ numberOf b = omega arith in
+          elim (decLt (placeOf a) (placeOf b)) [
+            | yes x ↦ absurd (l a (inr (e, x)) g)
+            | no x ↦ elim (decLt (placeOf b) (placeOf a)) [
+              | yes y ↦ absurd (h b (inr (sym e, y)) k)
+              | no y ↦ settled a b e (omega arith)
+            ]
+          ]
+    ]
+  ]
+  same {a} (refuses g h) (passes k s) = absurd (k a g)
+  same {a} {b} (passes h s) (refuses k l) = absurd (h b k)
+  same (passes h s) (passes k u) = says-only Pass s ∙ sym (says-only Pass u)
+
+  -- There is no second.
+  pub judge-only : {a : Answer} → Judges f a → a ≡ judgeOf f
+  judge-only h = same h judges

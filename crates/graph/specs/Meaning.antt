@@ -1,0 +1,39 @@
+-- What the judge's answer means: the table "What comes back", numbers 1 to 9, and 0.
+use Prim.Native.Nat.{ℕ, _<_}
+use mathlib.Core.Path.{_≡_}
+use mathlib.Core.Bool.{true}
+use mathlib.Core.Logic.{_⊎_}
+use mathlib.Core.List.{List}
+use lib.ListN.{length}
+use Rattle.answer.specs.declared.Answer.{Answer}
+use Rattle.answer.specs.declared.Answer.the-variants.{Pass, TooShort, BadCount, BadLength, BadEntry, BadNode, BadFlow, BadCall, BadCatch, BadOpening, BadSheet, BadBlock, Broken, Overdrawn}
+use Rattle.answer.specs.Number.{numberOf, placeOf, Says}
+use Rattle.tables.specs.declared.Tables.{Tables}
+use Rattle.tables.specs.Trailer.{tablesOf}
+use Rattle.refuse.specs.Bad.{countBad, lengthBad, entryBad, nodeBad, flowBad, callBad, catchBad, openingBad}
+
+-- "Given when": the refusal applies to a file whose trailer says t
+abbrev pub Given : List ℕ → Tables → Answer → Type 0
+Given f t TooShort = length f < 14
+Given f t (BadCount i) = (i < 6) × (countBad f i ≡ true)
+Given f t BadLength = lengthBad f t ≡ true
+Given f t (BadEntry k) = (k < t .methods) × (entryBad f t k ≡ true)
+Given f t (BadNode k) = (k < t .nodes) × (nodeBad f t k ≡ true)
+Given f t (BadFlow k) = (k < t .flows) × (flowBad f t k ≡ true)
+Given f t (BadCall k) = (k < t .calls) × (callBad f t k ≡ true)
+Given f t (BadCatch k) = (k < t .catches) × (catchBad f t k ≡ true)
+Given f t (BadOpening k) = (k < t .types) × (openingBad f t k ≡ true)
+-- the others are not about the file alone
+Given f t BadSheet = ⊥
+Given f t (BadBlock w) = ⊥
+Given f t (Broken r) = ⊥
+Given f t (Overdrawn n) = ⊥
+Given f t Pass = ⊥
+
+-- "The first that applies, in this order; within a table the lowest row."
+abbrev pub Before : Answer → Answer → Type 0
+Before b a = (numberOf b < numberOf a) ⊎ ((numberOf b ≡ numberOf a) × (placeOf b < placeOf a))
+
+pub data Judges (f : List ℕ) (a : Answer) : Type 0 where
+  refuses : Given f (tablesOf f) a → ((b : Answer) → Before b a → Given f (tablesOf f) b → ⊥) → Judges f a
+  passes : ((b : Answer) → Given f (tablesOf f) b → ⊥) → Says a 0 0 → Judges f a

@@ -1,0 +1,14 @@
+-- The answers that name a node of the file.
+use Prim.Native.Nat.{ℕ}
+use mathlib.Core.List.{List}
+use Rattle.answer.specs.declared.Answer.{Answer}
+use Rattle.answer.specs.declared.Answer.the-variants.{BadNode, Overdrawn}
+use Rattle.tables.specs.declared.Tables.{Tables}
+
+-- 5: row k of the nodes is refused
+abbrev pub badNodeAt : List ℕ → Tables → ℕ → Answer
+badNodeAt f t k = BadNode k
+
+-- 13: overdrawn at the node n
+abbrev pub overdrawnAt : List ℕ → Tables → ℕ → Answer
+overdrawnAt f t n = Overdrawn n

@@ -1,0 +1,19 @@
+-- The program that a file's bytes say, and its runs. It is defined for any bytes.
+use Prim.Native.Nat.{ℕ}
+use mathlib.Core.List.{List}
+use Rattle.effect.specs.declared.Stock.{Stock}
+use Rattle.model.specs.Machine.{Arrives, Overdraws}
+use Rattle.model.specs.Program.{Program, doings}
+use Rattle.tables.specs.Trailer.{tablesOf}
+use Rattle.graph.specs.Graph.{graphOf}
+use Rattle.nodes.specs.Nodes.{doesIn, openingIn}
+
+abbrev pub programOf : List ℕ → Program
+programOf f = record { graph = graphOf f; does = doesIn f (tablesOf f); opening = openingIn f (tablesOf f) }
+
+-- a run arrives at the node n and brings h; a run overdraws at the node n
+abbrev pub Brings : List ℕ → ℕ → Stock → Type 0
+Brings f n h = Arrives (programOf f .graph) (doings (programOf f)) (programOf f .opening) n h
+
+abbrev pub Overdrawing : List ℕ → ℕ → Type 0
+Overdrawing f n = Overdraws (programOf f .graph) (doings (programOf f)) (programOf f .opening) n
