@@ -1,32 +1,36 @@
 -- The laws of stocks and effects at one coordinate, where only that coordinate matters.
 --   apply-mono, apply-nothing, apply-then, apply-both, at-lower
---   the steps: grant-hit, grant-other, draw-count, draw-right, draw-other
+--   the steps: apply-grant, apply-draw
 --   the tests: stock-at-sound, stock-at-complete, at-most-at-sound, at-most-at-complete
---   a draw: covers-type, covers-asked, uncovered
+--   a draw: covers-sound, covers-complete; Asked, covers-asked, uncovered
 use Prim.Native.Nat.{ℕ, zero, suc, _≤_, _<_, min}
 use mathlib.Core.Path.{_≡_, refl, sym, _∙_, ap}
-use mathlib.Core.Bool.{Bool, true, false}
+use mathlib.Core.Bool.{true}
+use mathlib.Core.List.{List}
 use mathlib.Core.Logic.{_⊎_, inl, inr, ⊎-elim}
 use native.Mathlib.Omega.{arith}
 use native.Mathlib.Decide.{ℕ-discrete, decLe, decLt}
 use lib.Bits.{and-le-r, bitOr}
 use lib.Dec.{ltb, eqb}
-use borrow.Author.Tests.{leb-true, leb-false, ltb-true, lt-ltb, eq-eqb, ne-eqb}
+use lib.ListN.{getD}
+use borrow.Author.Tests.{le-leb, leb-true, ltb-true, lt-ltb, eq-eqb, ne-eqb}
 use Rattle.single.specs.declared.Held.{Held}
 use Rattle.single.specs.declared.One.{One}
-use Rattle.single.specs.Number.{counted, less, rightsAfter, within}
-use Rattle.single.specs.Single.{idle, drawn, granted, applyOne, lowerHeld, coversHeld}
+use Rattle.number.specs.Number.{pick, counted, less, rightsAfter}
+use Rattle.number.specs.Formulas.{within}
+use Rattle.single.specs.Single.{idle, applyOne}
+use Rattle.single.specs.Formulas.{drawn, granted, lowerHeld, coversHeld}
 use Rattle.effect.specs.declared.Stock.{Stock}
 use Rattle.effect.specs.declared.Effect.{Effect}
 use Rattle.effect.specs.Six.{heldAt, oneAt, effectOf}
-use Rattle.effect.specs.Whole.{normalOf, nothingDone, oneIf, drawOf, grantOf, applyOf, thenOf, bothOf, atMostOf, stockAtMostOf, lowerOf, coversOf}
-use Rattle.effect.specs.Meaning.{bit, Below}
-use Rattle.effect.specs.Coordinate.{Coordinate, right, count, at, Asked, asked-count, asked-right}
-use Rattle.effect.proofs.Bools.{and-l, and-r, and-no, clash}
+use Rattle.effect.specs.Whole.{nothingDone, oneIf, drawOf, grantOf, applyOf, thenOf, bothOf, atMostOf, stockAtMostOf, lowerOf, coversOf}
+use Rattle.effect.specs.Coordinate.{bit, Coordinate, right, count, at}
+use Rattle.effect.specs.Meaning.{Below, AtMost, with-at, replaced, oneTaken, Covers}
+use Rattle.effect.proofs.Bools.{and-l, and-r, and-i}
 use Rattle.effect.proofs.Bit.{bit-lt, bit-and, word-bits, within-bit, bit-within}
-use Rattle.effect.proofs.Count.{less-top, less-counted, after-mono, after-nothing}
+use Rattle.effect.proofs.Count.{after-mono, after-nothing}
 use Rattle.effect.proofs.Rights.{rights-mono, rights-nothing}
-use Rattle.effect.proofs.Six.{effect-at}
+use Rattle.effect.proofs.Six.{below-six, effect-at}
 use Rattle.effect.proofs.Single.{one-granted, one-drawn}
 use Rattle.effect.proofs.Laws as laws
 
@@ -106,40 +110,63 @@ at-hit t x i s e = at-only t x i s ∙ simp (eq-eqb (typeOf i) t e)
 at-other : (t : ℕ) (x : One) (i : Coordinate) (s : Stock) → (typeOf i ≡ t → ⊥) → at i (applyOf (only t x) s) ≡ at i s
 at-other t x i s n = at-only t x i s ∙ simp (ne-eqb (typeOf i) t n) (seen-nothing i (heldAt s (typeOf i)) ∙ sym (at-seen i s))
 
--- "A grant replaces rights and count of its type"
-pub grant-hit : (t p m : ℕ) (i : Coordinate) (s : Stock) → typeOf i ≡ t → at i (applyOf (grantOf t p m) s) ≡ seen i (record { rights = p; count = counted m })
+-- with a number for type t, that number is found there, and elsewhere what was
+with-found : (t v : ℕ) (l : List ℕ) (k : ℕ) → k < 6 → getD (with-at t v l) k 0 ≡ pick (eqb k t) v (getD l k 0)
+unfolding with-at
+with-found t v l = below-six (λ k. getD (with-at t v l) k 0 ≡ pick (eqb k t) v (getD l k 0)) refl refl refl refl refl refl
+
+with-hit : (t v : ℕ) (l : List ℕ) (k : ℕ) → k < 6 → k ≡ t → getD (with-at t v l) k 0 ≡ v
+with-hit t v l k h e = with-found t v l k h ∙ simp (eq-eqb k t e)
+
+with-other : (t v : ℕ) (l : List ℕ) (k : ℕ) → k < 6 → (k ≡ t → ⊥) → getD (with-at t v l) k 0 ≡ getD l k 0
+with-other t v l k h n = with-found t v l k h ∙ simp (ne-eqb k t n)
+
+-- a grant replaces rights and count of its type
+seen-granted : (p m : ℕ) (i : Coordinate) (h : Held) → seen i (applyOne (granted p m) h) ≡ seen i (record { rights = p; count = m })
+seen-granted p m i h = ap (seen i) (one-granted p m h) ∙ again i
+  where
+    again : (i : Coordinate) → seen i (record { rights = p; count = counted m }) ≡ seen i (record { rights = p; count = m })
+    again (right k b _ _) = refl
+    again (count k _) = omega arith
+
+replaced-hit : (t p m : ℕ) (i : Coordinate) (s : Stock) → typeOf i ≡ t → at i (replaced t p m s) ≡ seen i (record { rights = p; count = m })
+unfolding at replaced
+replaced-hit t p m (right k b h _) s e = ap (bit b) (with-hit t p (s .rights) k h e)
+replaced-hit t p m (count k h) s e = ap counted (with-hit t m (s .counts) k h e)
+
+replaced-other : (t p m : ℕ) (i : Coordinate) (s : Stock) → (typeOf i ≡ t → ⊥) → at i (replaced t p m s) ≡ at i s
+unfolding at replaced
+replaced-other t p m (right k b h _) s n = ap (bit b) (with-other t p (s .rights) k h n)
+replaced-other t p m (count k h) s n = ap counted (with-other t m (s .counts) k h n)
+
+pub apply-grant : (t p m : ℕ) (i : Coordinate) (s : Stock) → at i (applyOf (grantOf t p m) s) ≡ at i (replaced t p m s)
 unfolding grantOf
-grant-hit t p m i s e = at-hit t (granted p m) i s e ∙ ap (seen i) (one-granted p m (heldAt s (typeOf i)))
-
-pub grant-other : (t p m : ℕ) (i : Coordinate) (s : Stock) → (typeOf i ≡ t → ⊥) → at i (applyOf (grantOf t p m) s) ≡ at i s
-unfolding grantOf
-grant-other t p m = at-other t (granted p m)
-
--- "A draw takes 1 from a finite count, endless stays endless", and leaves the rights
-pub draw-count : (t : ℕ) (h : t < 6) (s : Stock) → at (count t h) (applyOf (drawOf t) s) ≡ less (at (count t h) s) 1
-unfolding drawOf at
-draw-count t h s =
-    let r = heldAt s t .count in
-    at-hit t drawn (count t h) s refl ∙ omega (arith, one-drawn (heldAt s t), less-counted r 1, less-top r 1)
-
-pub draw-right : (t k b : ℕ) (h : k < 6) (l : b < 16) (s : Stock) → at (right k b h l) (applyOf (drawOf t) s) ≡ at (right k b h l) s
-unfolding drawOf at drawn applyOne
-draw-right t k b h l s = elim (ℕ-discrete k t) [
-  | yes e ↦ at-hit t drawn (right k b h l) s e ∙ rights-nothing b (heldAt s k .rights) l
-  | no e ↦ at-other t drawn (right k b h l) s e
+apply-grant t p m i s = elim (ℕ-discrete (typeOf i) t) [
+  | yes e ↦ at-hit t (granted p m) i s e ∙ seen-granted p m i (heldAt s (typeOf i)) ∙ sym (replaced-hit t p m i s e)
+  | no n ↦ at-other t (granted p m) i s n ∙ sym (replaced-other t p m i s n)
 ]
 
-pub draw-other : (t : ℕ) (i : Coordinate) (s : Stock) → (typeOf i ≡ t → ⊥) → at i (applyOf (drawOf t) s) ≡ at i s
-unfolding drawOf
-draw-other t = at-other t drawn
+-- a draw takes 1 of its type's count
+pub apply-draw : (t : ℕ) (i : Coordinate) (s : Stock) → at i (applyOf (drawOf t) s) ≡ at i (oneTaken t s)
+unfolding drawOf at oneTaken drawn applyOne
+apply-draw t (right k b h l) s = elim (ℕ-discrete k t) [
+  | yes e ↦ at-hit t drawn (right k b h l) s e ∙ rights-nothing b (heldAt s k .rights) l
+  | no n ↦ at-other t drawn (right k b h l) s n
+]
+apply-draw t (count k h) s = elim (ℕ-discrete k t) [
+  | yes e ↦
+      let v = less (getD (s .counts) t 0) 1 in
+      at-hit t drawn (count k h) s e ∙ ap counted (one-drawn (heldAt s k) ∙ ap (λ (j : ℕ). less (getD (s .counts) j 0) 1) e ∙ sym (with-hit t v (s .counts) k h e))
+  | no n ↦ at-other t drawn (count k h) s n ∙ sym (ap counted (with-other t (less (getD (s .counts) t 0) 1) (s .counts) k h n))
+]
 
 -- one stock is below another if and, for rights that are words, only if it is at every coordinate
-below-at : (s t : Stock) → Below s t → (i : Coordinate) → at i s ≤ at i t
+below-at : (s t : Stock) → laws.EachBelow s t → Below s t
 unfolding at
 below-at s t q (right k b h _) = q k h .every-right b
 below-at s t q (count k h) = q k h .the-count
 
-at-below : (s t : Stock) → ((k : ℕ) → k < 6 → heldAt s k .rights < 65536) → ((i : Coordinate) → at i s ≤ at i t) → Below s t
+at-below : (s t : Stock) → ((k : ℕ) → k < 6 → heldAt s k .rights < 65536) → Below s t → laws.EachBelow s t
 unfolding at
 at-below s t w q k h =
     record {
@@ -147,17 +174,17 @@ at-below s t w q k h =
       the-count = q (count k h);
     }
 
-pub stock-at-sound : (s t : Stock) → stockAtMostOf s t ≡ true → (i : Coordinate) → at i s ≤ at i t
+pub stock-at-sound : (s t : Stock) → stockAtMostOf s t ≡ true → Below s t
 stock-at-sound s t p = below-at s t (laws.stock-sound s t p)
 
-pub stock-at-complete : (s t : Stock) → ((k : ℕ) → k < 6 → heldAt s k .rights < 65536) → ((i : Coordinate) → at i s ≤ at i t) → stockAtMostOf s t ≡ true
+pub stock-at-complete : (s t : Stock) → ((k : ℕ) → k < 6 → heldAt s k .rights < 65536) → Below s t → stockAtMostOf s t ≡ true
 stock-at-complete s t w q = laws.stock-complete s t (at-below s t w q)
 
-pub at-most-at-sound : (a b : Effect) → atMostOf a b ≡ true → (s : Stock) (i : Coordinate) → at i (applyOf a s) ≤ at i (applyOf b s)
+pub at-most-at-sound : (a b : Effect) → atMostOf a b ≡ true → AtMost a b
 at-most-at-sound a b p s = below-at (applyOf a s) (applyOf b s) (laws.at-most-sound a b p s)
 
 -- what an effect leaves is within its keep-max
-applied-word : (e : Effect) (s : Stock) → ((k : ℕ) → k < 6 → oneAt e k .keepmax < 65536) → (k : ℕ) → k < 6 → heldAt (applyOf e s) k .rights < 65536
+applied-word : (e : Effect) (s : Stock) → laws.Words e → (k : ℕ) → k < 6 → heldAt (applyOf e s) k .rights < 65536
 unfolding applyOne rightsAfter
 applied-word e s w k h =
     let m = w k h in
@@ -167,26 +194,32 @@ applied-word e s w k h =
       and-le-r (bitOr (heldAt s k .rights) (oneAt e k .keepin)) (oneAt e k .keepmax),
     )
 
-pub at-most-at-complete : (a b : Effect) → normalOf a ≡ true → ((k : ℕ) → k < 6 → oneAt a k .keepmax < 65536)
-    → ((s : Stock) (i : Coordinate) → at i (applyOf a s) ≤ at i (applyOf b s)) → atMostOf a b ≡ true
-at-most-at-complete a b n w q =
-    laws.at-most-complete a b n (λ s. at-below (applyOf a s) (applyOf b s) (applied-word a s w) (q s))
+pub at-most-at-complete : (a b : Effect) → laws.Words a → AtMost a b → atMostOf a b ≡ true
+at-most-at-complete a b w q =
+    laws.at-most-complete a b (λ s. at-below (applyOf a s) (applyOf b s) (applied-word a s w) (q s))
 
--- a draw is covered where every coordinate that it asks for has at least 1
-pub covers-type : (s : Stock) (t p : ℕ) → coversOf s t p ≡ true → t < 6
-unfolding coversOf
-covers-type s t p c = ltb-true t 6 (and-l (ltb t 6) _ c)
+-- the test of a draw is the meaning
+pub covers-sound : (s : Stock) (t p : ℕ) → coversOf s t p ≡ true → Covers s t p
+unfolding coversOf coversHeld
+covers-sound s t p c =
+    let w = within p (heldAt s t .rights) in
+    let q = and-r (ltb t 6) _ c in
+    record { a-type = ltb-true t 6 (and-l (ltb t 6) _ c); every-right = within-bit _ _ (and-l w _ q); a-count = leb-true _ _ (and-r w _ q) }
 
-pub covers-asked : (s : Stock) (t p : ℕ) → coversOf s t p ≡ true → (i : Coordinate) → Asked t p i → 1 ≤ at i s
-unfolding coversOf coversHeld at
-covers-asked s t p c i a = go i a
-  where
-    w : Bool
-    w = within p (heldAt s t .rights)
+pub covers-complete : (s : Stock) (t p : ℕ) → Covers s t p → coversOf s t p ≡ true
+unfolding coversOf coversHeld
+covers-complete s t p c =
+    and-i (lt-ltb t 6 (c .a-type)) (and-i (bit-within _ _ (c .every-right)) (le-leb 1 (heldAt s t .count) (c .a-count)))
 
-    go : (i : Coordinate) → Asked t p i → 1 ≤ at i s
-    go _ (asked-count h) = omega (arith, leb-true 1 (heldAt s t .count) (and-r w _ (and-r (ltb t 6) _ c)))
-    go _ (asked-right b h l e) = omega (arith, within-bit p (heldAt s t .rights) (and-l w _ (and-r (ltb t 6) _ c)) b)
+-- the coordinates that a draw of rights p of type t asks for: where it is covered, each has at least 1
+pub data Asked (t p : ℕ) : Coordinate → Type 0 where
+  asked-count : (h : t < 6) → Asked t p (count t h)
+  asked-right : (b : ℕ) (h : t < 6) (l : b < 16) → bit b p ≡ 1 → Asked t p (right t b h l)
+
+pub covers-asked : (s : Stock) (t p : ℕ) → Covers s t p → (i : Coordinate) → Asked t p i → 1 ≤ at i s
+unfolding at
+covers-asked s t p c _ (asked-count h) = omega (arith, c .a-count)
+covers-asked s t p c _ (asked-right b h l e) = omega (arith, c .every-right b)
 
 -- the first of n bits that p has and r has not, if there is one
 abbrev Missing : ℕ → ℕ → ℕ → Type 0
@@ -206,14 +239,13 @@ missing p r (suc n) = ⊎-elim here (λ m. inr (m .0, omega (arith, m .1), m .2,
     ]
 
 -- and where it is not covered, one of them has none
-pub uncovered : (s : Stock) (t p : ℕ) → t < 6 → p < 65536 → coversOf s t p ≡ false → (i : Coordinate) × Asked t p i × (at i s < 1)
-unfolding coversOf coversHeld at
-uncovered s t p h w c =
+pub uncovered : (s : Stock) (t p : ℕ) → t < 6 → p < 65536 → (Covers s t p → ⊥) → (i : Coordinate) × Asked t p i × (at i s < 1)
+unfolding at
+uncovered s t p h w u =
     let r = heldAt s t .rights in
-    ⊎-elim (λ n. absurd (clash _ (lt-ltb t 6 h) n))
-    (λ n. ⊎-elim
-    (λ v. ⊎-elim (λ q. absurd (clash _ (bit-within p r (word-bits p r w q)) v))
-    (λ m. (right t (m .0) h (m .1), asked-right (m .0) h (m .1) (m .2), m .3)) (missing p r 16))
-    (λ v. (count t h, asked-count h, omega (arith, leb-false 1 (heldAt s t .count) v)))
-    (and-no (within p r) _ n))
-    (and-no (ltb t 6) _ c)
+    let c = heldAt s t .count in
+    elim (decLe 1 c) [
+      | no n ↦ (count t h, asked-count h, omega arith)
+      | yes l ↦ ⊎-elim (λ q. absurd (u (record { a-type = h; every-right = word-bits p r w q; a-count = l })))
+          (λ m. (right t (m .0) h (m .1), asked-right (m .0) h (m .1) (m .2), m .3)) (missing p r 16)
+    ]

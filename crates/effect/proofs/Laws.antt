@@ -15,18 +15,20 @@ use lib.Dec.{eqb}
 use lib.Bits.{bitOr, and-comm, and-le-r}
 use Rattle.single.specs.declared.Held.{Held}
 use Rattle.single.specs.declared.One.{One}
-use Rattle.single.specs.Number.{counted, rightsAfter, countAfter, normDrop, within}
-use Rattle.single.specs.Single.{normalForm, normalOne, idle, drawn, granted, applyOne, thenOne, bothOne, atMostOne, heldAtMost, lowerHeld}
+use Rattle.number.specs.Number.{counted, rightsAfter, countAfter}
+use Rattle.number.specs.Formulas.{normDrop, within}
+use Rattle.single.specs.Single.{idle, applyOne}
+use Rattle.single.specs.Formulas.{normalForm, normalOne, drawn, granted, thenOne, bothOne, atMostOne, heldAtMost, lowerHeld}
 use Rattle.effect.specs.declared.Stock.{Stock}
 use Rattle.effect.specs.declared.Effect.{Effect}
 use Rattle.effect.specs.Six.{heldAt, stockOf, oneAt, effectOf}
 use Rattle.effect.specs.Whole.{normalOf, nothingDone, oneIf, drawOf, grantOf, applyOf, thenOf, bothOf, atMostOf, stockAtMostOf, lowerOf}
-use Rattle.effect.specs.Meaning.{bit, HeldBelow, Below, AtMost}
+use Rattle.effect.specs.Coordinate.{bit}
 use Rattle.effect.proofs.Bit.{bit-and, bit-ext, bit-high}
 use Rattle.effect.proofs.Rights.{bit-after, rights-nothing}
 use Rattle.effect.proofs.Count.{after-nothing, after-mono, after-top}
 use Rattle.effect.proofs.Six.{all-i, all-e, stock-at, among-ext, SixHeld, SixOnes}
-use Rattle.effect.proofs.Single.{form-normal, form-same, one-then, one-both, one-lower, one-mono, held-sound, held-complete, one-refl, one-trans, one-sound, one-complete, one-anti}
+use Rattle.effect.proofs.Single.{HeldBelow, below-refl, below-trans, below-along, form-normal, form-same, one-then, one-both, one-lower, one-mono, held-sound, held-complete, one-refl, one-trans, one-sound, one-complete, one-anti}
 
 pub apply-then : (a b : Effect) (s : Stock) → applyOf (thenOf a b) s ≡ applyOf b (applyOf a s)
 unfolding applyOf thenOf
@@ -94,24 +96,18 @@ pub lower-at : (s t : Stock) (k : ℕ) → k < 6 → heldAt (lowerOf s t) k ≡ 
 unfolding lowerOf
 lower-at s t = stock-at (λ k. lowerHeld (heldAt s k) (heldAt t k))
 
--- the order of stocks
-below-refl : (s : Stock) → Below s s
-below-refl s k h = record { every-right = λ b. omega arith; the-count = omega arith }
+-- the order of stocks and of effects, type by type
+abbrev pub EachBelow : Stock → Stock → Type 0
+EachBelow s t = (k : ℕ) → k < 6 → HeldBelow (heldAt s k) (heldAt t k)
 
-below-trans : (s t u : Stock) → Below s t → Below t u → Below s u
-below-trans s t u p q k h =
-    let a = p k h in
-    let b = q k h in
-    record { every-right = λ j. omega (arith, a .every-right j, b .every-right j); the-count = omega (arith, a .the-count, b .the-count) }
+abbrev pub EachAtMost : Effect → Effect → Type 0
+EachAtMost a b = (s : Stock) → EachBelow (applyOf a s) (applyOf b s)
 
-below-along : {h h′ g g′ : Held} → h ≡ h′ → g ≡ g′ → HeldBelow h′ g′ → HeldBelow h g
-below-along p q l = rw (p, q) l
-
-pub stock-sound : (s t : Stock) → stockAtMostOf s t ≡ true → Below s t
+pub stock-sound : (s t : Stock) → stockAtMostOf s t ≡ true → EachBelow s t
 unfolding stockAtMostOf
 stock-sound s t q k h = held-sound (heldAt s k) (heldAt t k) (all-e (λ k. heldAtMost (heldAt s k) (heldAt t k)) q k h)
 
-pub stock-complete : (s t : Stock) → Below s t → stockAtMostOf s t ≡ true
+pub stock-complete : (s t : Stock) → EachBelow s t → stockAtMostOf s t ≡ true
 unfolding stockAtMostOf
 stock-complete s t q = all-i (λ k. heldAtMost (heldAt s k) (heldAt t k)) (λ k h. held-complete (heldAt s k) (heldAt t k) (q k h))
 
@@ -139,7 +135,7 @@ stock-anti s t u v c d p q =
     (all-e (λ k. heldAtMost (heldAt t k) (heldAt s k)) q k h)))
     ∙ v
 
-pub apply-mono : (e : Effect) (s t : Stock) → Below s t → Below (applyOf e s) (applyOf e t)
+pub apply-mono : (e : Effect) (s t : Stock) → EachBelow s t → EachBelow (applyOf e s) (applyOf e t)
 apply-mono e s t q k h =
     below-along (applied-at e s k h) (applied-at e t k h) (one-mono (oneAt e k) (heldAt s k) (heldAt t k) (q k h))
 
@@ -153,13 +149,13 @@ pub lower-comm : (s t : Stock) → lowerOf s t ≡ lowerOf t s
 unfolding lowerOf
 lower-comm s t = λ i. stockOf (λ k. held-comm (heldAt s k) (heldAt t k) i)
 
-pub lower-below : (s t : Stock) → Below (lowerOf s t) s
+pub lower-below : (s t : Stock) → EachBelow (lowerOf s t) s
 unfolding lowerHeld
 lower-below s t k h =
     below-along (lower-at s t k h) refl
     (record { every-right = λ b. omega (arith, bit-and b (heldAt s k .rights) (heldAt t k .rights)); the-count = omega arith })
 
-pub lower-greatest : (u s t : Stock) → Below u s → Below u t → Below u (lowerOf s t)
+pub lower-greatest : (u s t : Stock) → EachBelow u s → EachBelow u t → EachBelow u (lowerOf s t)
 unfolding lowerHeld
 lower-greatest u s t p q k h =
     let a = p k h in
@@ -189,18 +185,18 @@ lower-same s t v c q =
     ∙ v
 
 -- the test of effects is the meaning
-pub at-most-sound : (a b : Effect) → atMostOf a b ≡ true → AtMost a b
+pub at-most-sound : (a b : Effect) → atMostOf a b ≡ true → EachAtMost a b
 unfolding atMostOf
 at-most-sound a b t s k h =
     below-along (applied-at a s k h) (applied-at b s k h)
     (one-sound (oneAt a k) (oneAt b k) (all-e (λ k. atMostOne (oneAt a k) (oneAt b k)) t k h) (heldAt s k))
 
 -- the same of every type tells each type's effect
-pub at-most-complete : (a b : Effect) → normalOf a ≡ true → AtMost a b → atMostOf a b ≡ true
+pub at-most-complete : (a b : Effect) → EachAtMost a b → atMostOf a b ≡ true
 unfolding atMostOf
-at-most-complete a b n q =
+at-most-complete a b q =
     all-i (λ k. atMostOne (oneAt a k) (oneAt b k))
-    (λ k h. one-complete (oneAt a k) (oneAt b k) (normal-at a n k h)
+    (λ k h. one-complete (oneAt a k) (oneAt b k)
     (λ g. let s = stockOf (λ j. g) in
     let at : (e : Effect) → applyOne (oneAt e k) g ≡ heldAt (applyOf e s) k =
     λ e. sym (applied-at e s k h ∙ ap (applyOne (oneAt e k)) (stock-at (λ j. g) k h)) in
@@ -230,16 +226,15 @@ at-most-anti a b m n u v p q =
 -- equal functions are equal effects
 pub canonical : (a b : Effect) → normalOf a ≡ true → normalOf b ≡ true → SixOnes a → SixOnes b → ((s : Stock) → applyOf a s ≡ applyOf b s) → a ≡ b
 canonical a b m n u v e =
-    at-most-anti a b m n u v (at-most-complete a b m (λ s. rw (e s) (below-refl (applyOf b s))))
-    (at-most-complete b a n (λ s. rw (e s) (below-refl (applyOf b s))))
+    at-most-anti a b m n u v (at-most-complete a b (λ s k h. rw (e s) (below-refl (heldAt (applyOf b s) k))))
+    (at-most-complete b a (λ s k h. rw (e s) (below-refl (heldAt (applyOf b s) k))))
 
 pub then-mono : (a a′ b b′ : Effect) → atMostOf a a′ ≡ true → atMostOf b b′ ≡ true → atMostOf (thenOf a b) (thenOf a′ b′) ≡ true
 then-mono a a′ b b′ p q =
-    at-most-complete (thenOf a b) (thenOf a′ b′) (then-normal a b)
-    (λ s. let t = applyOf a s in
+    at-most-complete (thenOf a b) (thenOf a′ b′)
+    (λ s k h. let t = applyOf a s in
     let t′ = applyOf a′ s in
-    rw (apply-then a b s, apply-then a′ b′ s)
-    (below-trans (applyOf b t) (applyOf b t′) (applyOf b′ t′) (apply-mono b t t′ (at-most-sound a a′ p s)) (at-most-sound b b′ q t′)))
+    rw (apply-then a b s, apply-then a′ b′ s) (below-trans (apply-mono b t t′ (at-most-sound a a′ p s) k h) (at-most-sound b b′ q t′ k h)))
 
 pub then-assoc : (a b c : Effect) → thenOf (thenOf a b) c ≡ thenOf a (thenOf b c)
 unfolding thenOf
@@ -268,21 +263,21 @@ both-comm a b =
     (λ s. apply-both a b s ∙ lower-comm (applyOf a s) (applyOf b s) ∙ sym (apply-both b a s))
 
 pub both-left : (a b : Effect) → atMostOf (bothOf a b) a ≡ true
-both-left a b = at-most-complete (bothOf a b) a (both-normal a b) (λ s. rw (apply-both a b s) (lower-below (applyOf a s) (applyOf b s)))
+both-left a b = at-most-complete (bothOf a b) a (λ s. rw (apply-both a b s) (lower-below (applyOf a s) (applyOf b s)))
 
 pub both-right : (a b : Effect) → atMostOf (bothOf a b) b ≡ true
 both-right a b = rw (both-comm a b) (both-left b a)
 
-pub both-greatest : (c a b : Effect) → normalOf c ≡ true → atMostOf c a ≡ true → atMostOf c b ≡ true → atMostOf c (bothOf a b) ≡ true
-both-greatest c a b n p q =
-    at-most-complete c (bothOf a b) n
+pub both-greatest : (c a b : Effect) → atMostOf c a ≡ true → atMostOf c b ≡ true → atMostOf c (bothOf a b) ≡ true
+both-greatest c a b p q =
+    at-most-complete c (bothOf a b)
     (λ s. rw (apply-both a b s) (lower-greatest (applyOf c s) (applyOf a s) (applyOf b s) (at-most-sound c a p s) (at-most-sound c b q s)))
 
 -- and the smaller of two, where one is at most the other, is that one
 pub both-same : (a b : Effect) → normalOf a ≡ true → SixOnes a → atMostOf a b ≡ true → bothOf a b ≡ a
 unfolding bothOf
 both-same a b n v t =
-    at-most-anti (bothOf a b) a (both-normal a b) n refl v (both-left a b) (both-greatest a a b n (at-most-refl a) t)
+    at-most-anti (bothOf a b) a (both-normal a b) n refl v (both-left a b) (both-greatest a a b (at-most-refl a) t)
 
 -- nothing done changes nothing of a stock whose rights are words and whose counts are at most 255
 abbrev pub Fits : Held → Type 0

@@ -9,3 +9,5 @@ pub mod Laws
 pub mod Potential
 pub mod Coordinate
 pub mod Types
+pub mod Means
+pub mod Compute

@@ -7,8 +7,9 @@ use native.Mathlib.Omega.{arith}
 use native.Mathlib.Decide.{ℕ-discrete, decLe}
 use lib.Dec.{leb, eqb}
 use borrow.Author.Tests.{eq-eqb, le-leb, eqb-true, leb-true}
-use Rattle.single.specs.Number.{counted, less, countAfter, normDrop, rank, countAtMost}
-use Rattle.single.proofs.Cases.{less-endless, less-finite, left-none, left-some, norm-zero, norm-none, norm-254, norm-keep, rank-none, rank-some}
+use Rattle.number.specs.Number.{counted, less, countAfter}
+use Rattle.number.specs.Formulas.{normDrop, rank, countAtMost}
+use Rattle.number.proofs.Cases.{less-endless, less-finite, left-none, left-some, norm-zero, norm-none, norm-254, norm-keep, rank-none, rank-some}
 use Rattle.effect.proofs.Bools.{and-l, and-r, and-i, or-e, or-l, or-r}
 use Rattle.effect.proofs.Count.{less-order, left-le}
 
@@ -21,18 +22,13 @@ pub under-true : (c d e f : ℕ) → countAtMost c d e f ≡ true → Under c d 
 unfolding countAtMost
 under-true c d e f t =
     ⊎-elim (λ p. nothing (eqb-true c 0 p))
-    (λ p. under (leb-true (counted c) e (and-l (leb (counted c) e) _ p)) (leb-true (rank f) (rank d) (and-r (leb (counted c) e) _ p)))
+    (λ p. let l = leb-true c e (and-l (leb c e) _ p) in under (omega arith) (leb-true (rank f) (rank d) (and-r (leb c e) _ p)))
     (or-e (eqb c 0) _ t)
 
-pub true-under : (c d e f : ℕ) → Under c d e f → countAtMost c d e f ≡ true
+pub true-under : (c d e f : ℕ) → c ≤ 255 → Under c d e f → countAtMost c d e f ≡ true
 unfolding countAtMost
-true-under c d e f (nothing p) = or-l _ (eq-eqb c 0 p)
-true-under c d e f (under p q) = or-r (eqb c 0) (and-i (le-leb (counted c) e p) (le-leb (rank f) (rank d) q))
-
-pub under-trans : (c d e f g h : ℕ) → Under c d e f → Under e f g h → Under c d g h
-under-trans c d e f g h (nothing p) v = nothing p
-under-trans c d e f g h (under p q) (nothing v) = nothing (omega arith)
-under-trans c d e f g h (under p q) (under v w) = under (omega arith) (omega arith)
+true-under c d e f h (nothing p) = or-l _ (eq-eqb c 0 p)
+true-under c d e f h (under p q) = or-r (eqb c 0) (and-i (le-leb c e (omega arith)) (le-leb (rank f) (rank d) q))
 
 after-le : (c d r : ℕ) → countAfter c d r ≤ counted c
 unfolding countAfter
@@ -124,6 +120,22 @@ norm-kept c d = elim (ℕ-discrete c 0) [
           | no p ↦ rw (norm-keep c d z (omega arith) p) (norm-keep (counted c) d w (omega arith) p)
         ]
       ]
+]
+
+-- its drop keeps to the form exactly if it is of the form
+pub kept-254 : (c d : ℕ) → normDrop c d ≡ d → d ≡ 254 → ⊥
+kept-254 c d n p = elim (ℕ-discrete c 0) [
+  | yes z ↦ omega (arith, norm-zero c d z)
+  | no z ↦ omega (arith, norm-254 c d z p)
+]
+
+pub form-kept : (c d : ℕ) → d ≤ 256 → (c ≡ 0 → d ≡ 256) → (d ≡ 254 → ⊥) → normDrop c d ≡ d
+form-kept c d h o n = elim (ℕ-discrete c 0) [
+  | yes z ↦ norm-zero c d z ∙ sym (o z)
+  | no z ↦ elim (decLe 256 d) [
+    | yes k ↦ omega (arith, norm-none c d z k)
+    | no k ↦ norm-keep c d z (omega arith) n
+  ]
 ]
 
 pub rank-le : (d : ℕ) → rank d ≤ 256

@@ -13,19 +13,20 @@ use lib.Dec.{eqb}
 use borrow.Author.Tests.{eq-eqb, ne-eqb, eqb-true, eqb-false, leb-false}
 use Rattle.single.specs.declared.Held.{Held}
 use Rattle.single.specs.declared.One.{One}
-use Rattle.single.specs.Number.{pick, counted, rank, within}
-use Rattle.single.specs.Single.{atMostOne, heldAtMost, lowerHeld}
+use Rattle.number.specs.Number.{pick, counted}
+use Rattle.number.specs.Formulas.{rank, within}
+use Rattle.single.specs.Formulas.{normalOne, atMostOne, heldAtMost, lowerHeld}
 use Rattle.effect.specs.declared.Stock.{Stock}
 use Rattle.effect.specs.declared.Effect.{Effect}
 use Rattle.effect.specs.Six.{oneAt, heldAt}
-use Rattle.effect.specs.Whole.{atMostOf, bothOf, stockAtMostOf, lowerOf}
-use Rattle.effect.specs.Meaning.{bit}
+use Rattle.effect.specs.Whole.{normalOf, atMostOf, bothOf, stockAtMostOf, lowerOf}
+use Rattle.effect.specs.Coordinate.{bit}
 use Rattle.effect.proofs.Bools.{and-no, clash}
 use Rattle.effect.proofs.Bit.{bit-within}
 use Rattle.effect.proofs.Order.{Under, nothing, under, rank-le}
 use Rattle.effect.proofs.Six.{below-six, all-e, all-find}
-use Rattle.effect.proofs.Single.{fields-true, true-fields}
-use Rattle.effect.proofs.Laws.{at-most-trans, both-left, both-right}
+use Rattle.effect.proofs.Single.{normal-fields, fields-true}
+use Rattle.effect.proofs.Laws.{at-most-trans, normal-at, both-normal, both-left, both-right}
 
 -- a sum over the six types is no larger where each is no larger, and less where one is less
 abbrev pub sumSix : (ℕ → ℕ) → ℕ
@@ -83,20 +84,20 @@ bits-le : (a b : ℕ) → ((k : ℕ) → bit k a ≤ bit k b) → a ≤ b
 unfolding within
 bits-le a b h = omega (arith, eqb-true (bitAnd a b) a (bit-within a b h), and-le-r a b)
 
-one-le : (x y : One) → atMostOne x y ≡ true → potOne x ≤ potOne y
-one-le x y t =
-    let f = fields-true x y t in
+one-le : (x y : One) → normalOne x ≡ true → atMostOne x y ≡ true → potOne x ≤ potOne y
+one-le x y n t =
+    let f = normal-fields x y n t in
     omega (arith, bits-le _ _ (f .keepins), bits-le _ _ (f .keepmaxs), count-le _ _ _ _ (f .pairs))
 
-one-back : (x y : One) → atMostOne x y ≡ true → potOne y ≤ potOne x → atMostOne y x ≡ true
-one-back x y t h =
-    let f = fields-true x y t in
+one-back : (x y : One) → normalOne x ≡ true → atMostOne x y ≡ true → potOne y ≤ potOne x → atMostOne y x ≡ true
+one-back x y n t h =
+    let f = normal-fields x y n t in
     let i = bits-le _ _ (f .keepins) in
     let m = bits-le _ _ (f .keepmaxs) in
     let c = count-le _ _ _ _ (f .pairs) in
     let p : y .keepin ≡ x .keepin = omega arith in
     let q : y .keepmax ≡ x .keepmax = omega arith in
-    true-fields y x
+    fields-true y x
     (record {
       keepins = λ b. omega (arith, ap (bit b) p);
       keepmaxs = λ b. omega (arith, ap (bit b) q);
@@ -107,29 +108,29 @@ one-back x y t h =
 unfoldable pub potOf : Effect → ℕ
 potOf e = sumSix (λ k. potOne (oneAt e k))
 
-pub pot-le : (z a : Effect) → atMostOf z a ≡ true → potOf z ≤ potOf a
+pub pot-le : (z a : Effect) → normalOf z ≡ true → atMostOf z a ≡ true → potOf z ≤ potOf a
 unfolding potOf atMostOf
-pot-le z a t =
+pot-le z a m t =
     sum-le (λ k. potOne (oneAt z k)) (λ k. potOne (oneAt a k))
-    (λ k h. one-le (oneAt z k) (oneAt a k) (all-e (λ k. atMostOne (oneAt z k) (oneAt a k)) t k h))
+    (λ k h. one-le (oneAt z k) (oneAt a k) (normal-at z m k h) (all-e (λ k. atMostOne (oneAt z k) (oneAt a k)) t k h))
 
-pub pot-falls : (z a : Effect) → atMostOf z a ≡ true → atMostOf a z ≡ false → potOf z < potOf a
+pub pot-falls : (z a : Effect) → normalOf z ≡ true → atMostOf z a ≡ true → atMostOf a z ≡ false → potOf z < potOf a
 unfolding potOf atMostOf
-pot-falls z a t n =
+pot-falls z a m t n =
     let w = all-find (λ k. atMostOne (oneAt a k) (oneAt z k)) n in
     let at : (k : ℕ) → k < 6 → atMostOne (oneAt z k) (oneAt a k) ≡ true = all-e (λ k. atMostOne (oneAt z k) (oneAt a k)) t in
-    sum-lt (λ k. potOne (oneAt z k)) (λ k. potOne (oneAt a k)) (λ k h. one-le (oneAt z k) (oneAt a k) (at k h)) (w .0) (w .1)
-    (lt-of-not-le (λ l. clash _ (one-back (oneAt z (w .0)) (oneAt a (w .0)) (at (w .0) (w .1)) l) (w .2)))
+    sum-lt (λ k. potOne (oneAt z k)) (λ k. potOne (oneAt a k)) (λ k h. one-le (oneAt z k) (oneAt a k) (normal-at z m k h) (at k h)) (w .0) (w .1)
+    (lt-of-not-le (λ l. clash _ (one-back (oneAt z (w .0)) (oneAt a (w .0)) (normal-at z m (w .0) (w .1)) (at (w .0) (w .1)) l) (w .2)))
 
 pub both-le : (a b : Effect) → potOf (bothOf a b) ≤ potOf a
-both-le a b = pot-le (bothOf a b) a (both-left a b)
+both-le a b = pot-le (bothOf a b) a (both-normal a b) (both-left a b)
 
 pub both-falls : (a b : Effect) → atMostOf a b ≡ false → potOf (bothOf a b) < potOf a
 both-falls a b n = go (atMostOf a (bothOf a b)) refl
   where
     go : (t : Bool) → atMostOf a (bothOf a b) ≡ t → potOf (bothOf a b) < potOf a
     go true p = absurd (clash _ (at-most-trans a (bothOf a b) b p (both-right a b)) n)
-    go false p = pot-falls (bothOf a b) a (both-left a b) p
+    go false p = pot-falls (bothOf a b) a (both-normal a b) (both-left a b) p
 
 -- of a stock
 abbrev pub potHeld : Held → ℕ

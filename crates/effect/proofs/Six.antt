@@ -1,6 +1,6 @@
 -- Six types: what holds of each holds of the whole, and the other way round.
 use Prim.Native.Nat.{ℕ, zero, suc, _<_}
-use mathlib.Core.Path.{_≡_, refl}
+use mathlib.Core.Path.{_≡_, refl, _∙_, ap}
 use mathlib.Core.Bool.{Bool, true, false, _&&_}
 use mathlib.Core.List.{List, [], _∷_}
 use mathlib.Core.Logic.{⊎-elim}
@@ -61,6 +61,20 @@ effect-at f = below-six (λ k. oneAt (effectOf f) k ≡ f k) refl refl refl refl
 pub among-ext : {A : Type 0} (f g : ℕ → A) → ((k : ℕ) → k < 6 → f k ≡ g k) → among (f 0) (f 1) (f 2) (f 3) (f 4) (f 5) ≡ among (g 0) (g 1) (g 2) (g 3) (g 4) (g 5)
 among-ext f g h =
     λ i. among (h 0 (omega arith) i) (h 1 (omega arith) i) (h 2 (omega arith) i) (h 3 (omega arith) i) (h 4 (omega arith) i) (h 5 (omega arith) i)
+
+-- what is made of six is the whole, where each of them is what the whole has there
+module _ {A : Type 0} (f : ℕ → A) {p q u v x y : A} (a : p ≡ f 0) (b : q ≡ f 1) (c : u ≡ f 2) (d : v ≡ f 3) (e : x ≡ f 4) (g : y ≡ f 5) where
+  each-is : among p q u v x y ≡ among (f 0) (f 1) (f 2) (f 3) (f 4) (f 5)
+  each-is = λ i. among (a i) (b i) (c i) (d i) (e i) (g i)
+
+pub made-effect : {r : Effect} (f : ℕ → One) {p q u v x y : One} → p ≡ f 0 → q ≡ f 1 → u ≡ f 2 → v ≡ f 3 → x ≡ f 4 → y ≡ f 5 → r ≡ effectOf (among p q u v x y) → r ≡ effectOf f
+made-effect f a b c d e g h = h ∙ ap effectOf (each-is f a b c d e g)
+
+pub made-stock : {r : Stock} (f : ℕ → Held) {p q u v x y : Held} → p ≡ f 0 → q ≡ f 1 → u ≡ f 2 → v ≡ f 3 → x ≡ f 4 → y ≡ f 5 → r ≡ stockOf (among p q u v x y) → r ≡ stockOf f
+made-stock f a b c d e g h = h ∙ ap stockOf (each-is f a b c d e g)
+
+pub made-test : {r : Bool} (f : ℕ → Bool) {p q u v x y : Bool} → p ≡ f 0 → q ≡ f 1 → u ≡ f 2 → v ≡ f 3 → x ≡ f 4 → y ≡ f 5 → r ≡ allSix (among p q u v x y) → r ≡ allSix f
+made-test f a b c d e g h = h ∙ ap allSix (each-is f a b c d e g)
 
 -- a stock, and an effect, of six types and no more
 abbrev pub SixHeld : Stock → Type 0

@@ -9,8 +9,10 @@ use borrow.Author.Tests.{leb-true, eqb-true, ne-eqb}
 use native.Mathlib.Omega.{arith}
 use Rattle.single.specs.declared.Held.{Held}
 use Rattle.single.specs.declared.One.{One}
-use Rattle.single.specs.Number.{less, left, countAfter, rightsAfter, normDrop, thenCap, sumDrop, rank, largerDrop, within}
-use Rattle.single.specs.Single.{normalForm, normalOne, idle, drawn, granted, applyOne, thenOne, bothOne, lowerHeld}
+use Rattle.number.specs.Number.{less, left, countAfter, rightsAfter}
+use Rattle.number.specs.Formulas.{normDrop, thenCap, sumDrop, rank, largerDrop, within}
+use Rattle.single.specs.Single.{idle, applyOne}
+use Rattle.single.specs.Formulas.{normalForm, normalOne, drawn, granted, thenOne, bothOne, lowerHeld}
 use Rattle.effect.specs.declared.Stock.{Stock}
 use Rattle.effect.specs.declared.Effect.{Effect}
 use Rattle.effect.specs.Six.{heldAt, stockOf, noneHeld, oneAt, effectOf}

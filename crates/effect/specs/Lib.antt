@@ -1,4 +1,5 @@
 pub mod Six
+pub mod Apply
 pub mod Whole
-pub mod Meaning
 pub mod Coordinate
+pub mod Meaning

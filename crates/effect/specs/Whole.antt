@@ -1,12 +1,14 @@
--- The operations on stocks and effects: at each type, those of `single`. A type above 5 is never covered, and to grant
+-- The operations on stocks and effects: at each type, the formulas of `single`. A type above 5 is never covered, and to grant
 -- or draw it does nothing.
 use Prim.Native.Nat.{ℕ}
-use mathlib.Core.Bool.{Bool, true, false, _&&_}
+use mathlib.Core.Bool.{Bool, _&&_}
 use lib.Dec.{ltb, eqb}
-use Rattle.single.specs.declared.One.{One}
-use Rattle.single.specs.Single.{normalOne, idle, drawn, granted, applyOne, thenOne, bothOne, atMostOne, heldAtMost, lowerHeld, coversHeld}
+use Rattle.single.specs.Single.{idle}
+use Rattle.single.specs.Formulas.{normalOne, drawn, granted, thenOne, bothOne, atMostOne, heldAtMost, lowerHeld, coversHeld}
 use Rattle.effect.specs.declared.Stock.{Stock}
 use Rattle.effect.specs.declared.Effect.{Effect}
+unfoldable pub use Rattle.effect.specs.Apply.{applyOf}
+pub use Rattle.effect.specs.Apply.{oneIf}
 use Rattle.effect.specs.Six.{allSix, heldAt, stockOf, oneAt, effectOf}
 
 unfoldable pub normalOf : Effect → Bool
@@ -15,19 +17,11 @@ normalOf e = allSix (λ k. normalOne (oneAt e k))
 unfoldable pub nothingDone : Effect
 nothingDone = effectOf (λ k. idle)
 
--- x where the test holds, else nothing done
-abbrev pub oneIf : Bool → One → One
-oneIf true x = x
-oneIf false x = idle
-
 unfoldable pub drawOf : ℕ → Effect
 drawOf t = effectOf (λ k. oneIf (eqb k t) drawn)
 
 unfoldable pub grantOf : ℕ → ℕ → ℕ → Effect
 grantOf t p m = effectOf (λ k. oneIf (eqb k t) (granted p m))
-
-unfoldable pub applyOf : Effect → Stock → Stock
-applyOf e s = stockOf (λ k. applyOne (oneAt e k) (heldAt s k))
 
 unfoldable pub thenOf : Effect → Effect → Effect
 thenOf a b = effectOf (λ k. thenOne (oneAt a k) (oneAt b k))

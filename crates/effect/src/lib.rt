@@ -2,11 +2,14 @@
 use single::Held;
 use single::One;
 ghost use mathlib.Core.Path.{_≡_};
-ghost use Prim.Native.Nat.{_<_};
+ghost use Prim.Native.Nat.{_<_, min};
 ghost use lib.Dec.{eqb};
-ghost use Rattle.single.specs.Single.{normalOne, applyOne, thenOne, bothOne, atMostOne, heldAtMost, lowerHeld};
+ghost use Rattle.single.specs.Single.{applyOne};
+ghost use Rattle.single.specs.Formulas.{normalOne, thenOne, bothOne, atMostOne, heldAtMost, lowerHeld};
 ghost use Rattle.effect.specs.Six.{allSix, among, heldAt, stockOf, oneAt, effectOf};
 ghost use Rattle.effect.specs.Whole.{normalOf, nothingDone, oneIf, drawOf, grantOf, applyOf, thenOf, bothOf, atMostOf, stockAtMostOf, lowerOf, coversOf};
+ghost use Rattle.effect.specs.Coordinate.{Coordinate, at};
+ghost use Rattle.effect.specs.Meaning.{Below, AtMost, replaced, oneTaken, Covers, Normal, Leaves, Exactly};
 
 pub struct Stock {
     pub rights: [u16; 6],
@@ -155,7 +158,8 @@ fn only(t: usize, x: One) -> Effect
 }
 
 pub fn nothing_done() -> Effect
-    ensures { λ r. ⌜ r ≡ nothingDone ⌝ }
+    ensures equals { λ r. ⌜ r ≡ nothingDone ⌝ }
+    ensures means { λ r. ⌜ Leaves r (λ i s. at i s) ⌝ }
 {
     let x = single::nothing_done();
     effect_of(x, x, x, x, x, x)
@@ -163,21 +167,24 @@ pub fn nothing_done() -> Effect
 
 // One is taken of type t.
 pub fn draw(t: usize) -> Effect
-    ensures { λ r. ⌜ r ≡ drawOf t ⌝ }
+    ensures equals { λ r. ⌜ r ≡ drawOf t ⌝ }
+    ensures means { λ r. ⌜ Leaves r (λ i s. at i (oneTaken t s)) ⌝ }
 {
     only(t, single::draw())
 }
 
 // Rights and count of type t are replaced.
 pub fn grant(t: usize, rights: u16, count: u16) -> Effect
-    ensures { λ r. ⌜ r ≡ grantOf t rights count ⌝ }
+    ensures equals { λ r. ⌜ r ≡ grantOf t rights count ⌝ }
+    ensures means { λ r. ⌜ Leaves r (λ i s. at i (replaced t rights count s)) ⌝ }
 {
     only(t, single::grant(rights, count))
 }
 
 // The effect is in normal form.
 pub fn normal(e: Effect) -> bool
-    ensures { λ r. ⌜ r ≡ normalOf e ⌝ }
+    ensures equals { λ r. ⌜ r ≡ normalOf e ⌝ }
+    ensures means { λ r. ⌜ Exactly r (Normal e) ⌝ }
 {
     all_six(
         normal_at(e, 0),
@@ -205,7 +212,8 @@ pub fn apply(e: Effect, s: Stock) -> Stock
 
 // The first effect, then the second.
 pub fn then(a: Effect, b: Effect) -> Effect
-    ensures { λ r. ⌜ r ≡ thenOf a b ⌝ }
+    ensures equals { λ r. ⌜ r ≡ thenOf a b ⌝ }
+    ensures means { λ r. ⌜ Leaves r (λ i s. at i (applyOf b (applyOf a s))) ⌝ }
 {
     effect_of(
         then_at(a, b, 0),
@@ -219,7 +227,8 @@ pub fn then(a: Effect, b: Effect) -> Effect
 
 // The smaller of what two effects leave.
 pub fn both(a: Effect, b: Effect) -> Effect
-    ensures { λ r. ⌜ r ≡ bothOf a b ⌝ }
+    ensures equals { λ r. ⌜ r ≡ bothOf a b ⌝ }
+    ensures means { λ r. ⌜ Leaves r (λ i s. min (at i (applyOf a s)) (at i (applyOf b s))) ⌝ }
 {
     effect_of(
         both_at(a, b, 0),
@@ -231,10 +240,10 @@ pub fn both(a: Effect, b: Effect) -> Effect
     )
 }
 
-// The test that one effect is at most another. Of a normal effect it holds exactly if it leaves at most what the other leaves,
-// of every stock (at-most-sound and at-most-complete, in proofs/Laws.antt).
+// One effect leaves at most what another leaves, of every stock.
 pub fn at_most(a: Effect, b: Effect) -> bool
-    ensures { λ r. ⌜ r ≡ atMostOf a b ⌝ }
+    ensures equals { λ r. ⌜ r ≡ atMostOf a b ⌝ }
+    ensures means { λ r. ⌜ Exactly r (AtMost a b) ⌝ }
 {
     all_six(
         at_most_at(a, b, 0),
@@ -248,7 +257,8 @@ pub fn at_most(a: Effect, b: Effect) -> bool
 
 // One stock is at most another, at every type.
 pub fn stock_at_most(s: Stock, t: Stock) -> bool
-    ensures { λ r. ⌜ r ≡ stockAtMostOf s t ⌝ }
+    ensures equals { λ r. ⌜ r ≡ stockAtMostOf s t ⌝ }
+    ensures means { λ r. ⌜ Exactly r (Below s t) ⌝ }
 {
     all_six(
         stock_at_most_at(s, t, 0),
@@ -262,7 +272,8 @@ pub fn stock_at_most(s: Stock, t: Stock) -> bool
 
 // The smaller of two stocks, right by right and count by count.
 pub fn lower(s: Stock, t: Stock) -> Stock
-    ensures { λ r. ⌜ r ≡ lowerOf s t ⌝ }
+    ensures equals { λ r. ⌜ r ≡ lowerOf s t ⌝ }
+    ensures means { λ r. ⌜ ((i : Coordinate) → at i r ≡ min (at i s) (at i t)) ⌝ }
 {
     stock_of(
         lower_at(s, t, 0),
@@ -276,7 +287,8 @@ pub fn lower(s: Stock, t: Stock) -> Stock
 
 // The stock has every right drawn of type t, and a count of at least 1.
 pub fn covers(s: Stock, t: usize, rights: u16) -> bool
-    ensures { λ r. ⌜ r ≡ coversOf s t rights ⌝ }
+    ensures equals { λ r. ⌜ r ≡ coversOf s t rights ⌝ }
+    ensures means { λ r. ⌜ Exactly r (Covers s t rights) ⌝ }
 {
     if t < 6 {
         return single::covers(held_at(s, t), rights);

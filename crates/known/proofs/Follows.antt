@@ -8,6 +8,7 @@ use borrow.Author.Tests.{ltb-true, leb-true, eqb-true, not-true}
 use Rattle.effect.specs.declared.Stock.{Stock}
 use Rattle.effect.specs.Whole.{coversOf}
 use Rattle.effect.proofs.Bools.{and-l, and-r, clash}
+use Rattle.effect.proofs.Coordinate.{covers-complete}
 use Rattle.model.specs.Machine.{Frame, frame, At, Run, stay, more, along, enter, again}
 use Rattle.model.specs.Stocks.{Does, plain, grant, draw, done, Covered}
 use Rattle.model.specs.Program.{doings}
@@ -35,7 +36,7 @@ not-covered : (d : Does) (s : Stock) → overdraws d s ≡ true → Covered d s 
 unfolding overdraws
 not-covered plain s h c = false≢true h
 not-covered (grant t p m) s h c = false≢true h
-not-covered (draw t p) s h c = clash (coversOf s t p) c (not-true _ h)
+not-covered (draw t p) s h c = clash (coversOf s t p) (covers-complete s t p c) (not-true _ h)
 
 both : (a b : Bool) → a && b ≡ true → (a ≡ true) × (b ≡ true)
 both a b h = (and-l a b h, and-r a b h)

@@ -7,10 +7,10 @@ use lib.ListN.{replicate}
 use lib.Dec.{eqb}
 use Rattle.words.specs.Bytes.{byteAt, wordAt}
 use Rattle.words.specs.Lowest.{lowest}
-use Rattle.single.specs.Number.{less, left, countAfter, rightsAfter, normDrop, thenCap, sumDrop, rank, largerDrop, countAtMost, within}
-use Rattle.single.specs.Single.{normalForm, normalOne, idle, drawn, granted, applyOne, thenOne, bothOne, atMostOne, heldAtMost, coversHeld}
 use Rattle.effect.specs.Whole.{normalOf, nothingDone, drawOf, grantOf, applyOf, thenOf, bothOf, atMostOf, stockAtMostOf, coversOf}
-use Rattle.model.specs.Stocks.{holding, oneTaken, done, stepOf}
+use Rattle.effect.specs.Meaning.{with-at, replaced, oneTaken}
+use Rattle.effect.proofs.Compute.{less, left, countAfter, rightsAfter, normDrop, thenCap, sumDrop, rank, largerDrop, countAtMost, within, normalForm, normalOne, idle, drawn, granted, applyOne, thenOne, bothOne, atMostOne, heldAtMost, coversHeld}
+use Rattle.model.specs.Stocks.{done, stepOf}
 use Rattle.model.specs.Rounds.{lowest-rounds, whole-rounds, earlier-rounds}
 use Rattle.tables.specs.Trailer.{trailerAt, trailer, tablesOf}
 use Rattle.tables.specs.Fields.{entryOf, nodeMethod, nodeKind, nodeNumber, nodeCount, nodeRights, flowFrom, flowTo, callNode, callMethod, openingRights, openingCount}
@@ -30,7 +30,7 @@ use Rattle.known.specs.File.{words, nodeRows, pairs, triples, distance, 
 use Rattle.known.specs.Table.{aWith, revoked, withoutRight, neverReturns, table}
 use Rattle.known.specs.Known.{AllKnown}
 use Rattle.known.proofs.Follows.{flow, call, repeat, overdraws, follows}
-use Rattle.known.proofs.Truth.{Certificate, sameOne, test, tests, all-true}
+use Rattle.known.proofs.Truth.{Certificate, hasThese, wordsOf, test, tests, all-true}
 
 -- File A is the 68 bytes that the document gives.
 pub a-bytes : fileBytes (aWith 2 2)
@@ -97,7 +97,7 @@ find (c ∷ d) n = cond (eqb (c .0) n) (c .1) (find d n)
 tested : tests (find certificates) table ≡ true
 unfolding byteAt wordAt lowest
     less left countAfter rightsAfter normDrop thenCap sumDrop rank largerDrop countAtMost within normalForm normalOne idle drawn granted applyOne thenOne bothOne atMostOne heldAtMost coversHeld
-    normalOf nothingDone drawOf grantOf applyOf thenOf bothOf atMostOf stockAtMostOf coversOf holding oneTaken done stepOf lowest-rounds whole-rounds earlier-rounds
+    normalOf nothingDone drawOf grantOf applyOf thenOf bothOf atMostOf stockAtMostOf coversOf with-at replaced oneTaken done stepOf lowest-rounds whole-rounds earlier-rounds
     trailerAt trailer tablesOf entryOf nodeMethod nodeKind nodeNumber nodeCount nodeRights flowFrom flowTo callNode callMethod openingRights openingCount
     above notAbove flowRow countBad lengthBad entryBad outOfRange unusedSet nodeBad flowBad callBad openingBad judgeRows judgeIn
     firstRow doesIn openingAt openingIn methodAt exitAt nodeAt sheetWords sheetBytes blockSize blockAt
@@ -105,7 +105,7 @@ unfolding byteAt wordAt lowest
     marked asked unasked entryDemand flowDemand returnDemand leaveDemand nodeDemand calledIn
     effectUnder stockUnder met allFor targetUnder startUnder afterCall intoCall leastOf thrownBroken calledBroken callBroken nodeBroken brokenOf
     uncoveredAt wholeSheet judgedSheet checkOf
-    words nodeRows pairs triples distance fileBytes aWith revoked withoutRight neverReturns table overdraws follows sameOne test tests certificates find
+    words nodeRows pairs triples distance fileBytes aWith revoked withoutRight neverReturns table overdraws follows hasThese wordsOf test tests certificates find
 tested = refl
 
 -- K1 to K11 hold.

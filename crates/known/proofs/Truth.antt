@@ -4,18 +4,22 @@ use mathlib.Core.Path.{_≡_, sym, ap, subst}
 use mathlib.Core.Bool.{Bool, true, false, _&&_, not}
 use mathlib.Core.List.{List, [], _∷_}
 use native.Mathlib.Omega.{arith}
-use lib.Dec.{eqb}
-use borrow.Author.Tests.{eqb-true, not-true}
+use lib.Dec.{ltb, eqb}
+use lib.ListN.{getD}
+use borrow.Author.Tests.{eqb-true, ltb-true, not-true}
 use Rattle.answer.specs.declared.Answer.{Answer}
 use Rattle.answer.specs.declared.Answer.the-variants.{Pass}
 use Rattle.answer.specs.Number.{numberOf, placeOf, Says}
 use Rattle.answer.proofs.Settled.{says}
 use Rattle.answer.proofs.Unpack.{zero-pass}
-use Rattle.single.specs.declared.One.{One}
+use Rattle.effect.specs.declared.Effect.{Effect}
 use Rattle.effect.specs.declared.Stock.{Stock}
-use Rattle.effect.specs.Whole.{normalOf, atMostOf}
+use Rattle.effect.specs.Six.{allSix}
+use Rattle.effect.specs.Whole.{atMostOf}
 use Rattle.effect.proofs.Bools.{and-l, and-r, clash}
-use Rattle.effect.proofs.Laws.{at-most-sound, at-most-complete}
+use Rattle.effect.proofs.Six.{all-e}
+use Rattle.effect.proofs.Laws.{Words}
+use Rattle.effect.proofs.Coordinate.{at-most-at-sound, at-most-at-complete}
 use Rattle.model.proofs.Sound.{sound}
 use Rattle.model.proofs.Exact.{never-overdraws-at}
 use Rattle.tables.specs.Trailer.{tablesOf}
@@ -46,9 +50,13 @@ use Rattle.known.proofs.Follows.{Choice, follows, overdrawn-by}
 abbrev pub Certificate : Type 0
 Certificate = List ℕ × List Choice
 
--- the two are the same, field by field
-unfoldable pub sameOne : One → One → Bool
-sameOne x y = eqb (x .keepin) (y .keepin) && eqb (x .keepmax) (y .keepmax) && eqb (x .cap) (y .cap) && eqb (x .drop) (y .drop)
+-- of type 0 the effect has these
+unfoldable pub hasThese : Effect → ℕ → ℕ → ℕ → ℕ → Bool
+hasThese e i m c d = eqb (getD (e .keepin) 0 0) i && (eqb (getD (e .keepmax) 0 0) m && (eqb (getD (e .cap) 0 0) c && eqb (getD (e .drop) 0 0) d))
+
+-- its rights are words
+unfoldable pub wordsOf : Effect → Bool
+wordsOf e = allSix (λ k. ltb (getD (e .keepmax) k 0) 65536)
 
 -- The test of a row.
 unfoldable pub test : Claim → Certificate → Bool
@@ -59,9 +67,9 @@ test (table.overdrawn g n) c =
     && follows (fileBytes g) n (c .1) (entryOf (fileBytes g) 0) [] (openingIn (fileBytes g) (tablesOf (fileBytes g)))
 test (table.unreached g n) c =
     eqb (numberOf (checkOf (fileBytes g) (c .0))) 0 && not (marked (c .0) (nodeAt (shapeOf (tablesOf (fileBytes g))) n))
-test (table.same x y) c = sameOne x y
+test (table.has e i m p d) c = hasThese e i m p d
 test (table.at-most a b) c = atMostOf a b
-test (table.not-at-most a b) c = normalOf a && not (atMostOf a b)
+test (table.not-at-most a b) c = wordsOf a && not (atMostOf a b)
 
 module _ (f u : List ℕ) where
   -- Check's verdict 13 on a sheet: the sheet obeys, and below the node named it covers every draw that it calls reached.
@@ -100,20 +108,19 @@ module _ (f u : List ℕ) where
       let a = accepts f u .0 e in
       clash _ (true-mark u _ (sound (setting f (a .0 .0)) (sheet f u) (a .1) (b .1) .0 .0 .1)) m
 
-same-one : (x y : One) → sameOne x y ≡ true → x ≡ y
-unfolding sameOne
-same-one x y h =
-    let a = eqb (x .keepin) (y .keepin) in
-    let b = eqb (x .keepmax) (y .keepmax) in
-    let c = eqb (x .cap) (y .cap) in
-    let p = and-l (a && b && c) _ h in
-    let q = and-l (a && b) c p in
-    λ i. record {
-      keepin = eqb-true (x .keepin) (y .keepin) (and-l a b q) i;
-      keepmax = eqb-true (x .keepmax) (y .keepmax) (and-r a b q) i;
-      cap = eqb-true (x .cap) (y .cap) (and-r (a && b) c p) i;
-      drop = eqb-true (x .drop) (y .drop) (and-r (a && b && c) _ h) i;
-    }
+has-these : (e : Effect) (i m c d : ℕ) → hasThese e i m c d ≡ true → (getD (e .keepin) 0 0 ≡ i) × (getD (e .keepmax) 0 0 ≡ m) × (getD (e .cap) 0 0 ≡ c) × (getD (e .drop) 0 0 ≡ d)
+unfolding hasThese
+has-these e i m c d h =
+    let p = eqb (getD (e .keepin) 0 0) i in
+    let q = eqb (getD (e .keepmax) 0 0) m in
+    let r = eqb (getD (e .cap) 0 0) c in
+    let h1 = and-r p _ h in
+    let h2 = and-r q _ h1 in
+    (eqb-true _ i (and-l p _ h), eqb-true _ m (and-l q _ h1), eqb-true _ c (and-l r _ h2), eqb-true _ d (and-r r _ h2))
+
+words-known : (e : Effect) → wordsOf e ≡ true → Words e
+unfolding wordsOf
+words-known e h k l = ltb-true _ 65536 (all-e (λ k. ltb (getD (e .keepmax) k 0) 65536) h k l)
 
 -- A row that passes its test is true.
 pub truth : (r : Claim) (c : Certificate) → test r c ≡ true → Known r
@@ -127,9 +134,9 @@ truth (table.overdrawn g n) c h =
 truth (table.unreached g n) c h =
     let p = eqb (numberOf (checkOf (fileBytes g) (c .0))) 0 in
     if-unmarked (fileBytes g) (c .0) (zero-pass _ (eqb-true _ 0 (and-l p _ h))) n (not-true _ (and-r p _ h))
-truth (table.same x y) c h = same-one x y h
-truth (table.at-most a b) c h = at-most-sound a b h
-truth (table.not-at-most a b) c h = λ q. clash (atMostOf a b) (at-most-complete a b (and-l (normalOf a) _ h) q) (not-true _ (and-r (normalOf a) _ h))
+truth (table.has e i m p d) c h = has-these e i m p d h
+truth (table.at-most a b) c h = at-most-at-sound a b h
+truth (table.not-at-most a b) c h = λ q. clash (atMostOf a b) (at-most-at-complete a b (words-known a (and-l (wordsOf a) _ h)) q) (not-true _ (and-r (wordsOf a) _ h))
 
 -- every row of a table, shown by the certificate of its number
 unfoldable pub tests : (ℕ → Certificate) → List (ℕ × Claim) → Bool

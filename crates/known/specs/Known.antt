@@ -2,7 +2,7 @@
 use Prim.Native.Nat.{ℕ}
 use mathlib.Core.Path.{_≡_}
 use mathlib.Core.List.{List, [], _∷_}
-use lib.ListN.{length}
+use lib.ListN.{length, getD}
 use Rattle.answer.specs.declared.Answer.{Answer}
 use Rattle.answer.specs.Number.{Says}
 use Rattle.effect.specs.declared.Stock.{Stock}
@@ -12,7 +12,7 @@ use Rattle.layout.specs.Layout.{sheetBytes}
 use Rattle.rules.specs.Sheet.{shape}
 use Rattle.work.specs.Meaning.{WorksOut}
 use Rattle.known.specs.File.{fileBytes}
-use Rattle.known.specs.Table.{Claim, passes, overdrawn, unreached, same, at-most, not-at-most}
+use Rattle.known.specs.Table.{Claim, passes, overdrawn, unreached, has, at-most, not-at-most}
 
 -- Of the file f and any sheet of the right length, work out answers with this number and this place, and with no other.
 abbrev pub Answers : List ℕ → ℕ → ℕ → Type 0
@@ -22,7 +22,7 @@ abbrev pub Known : Claim → Type 0
 Known (passes g) = Answers (fileBytes g) 0 0
 Known (overdrawn g n) = Answers (fileBytes g) 13 n
 Known (unreached g n) = (h : Stock) → Brings (fileBytes g) n h → ⊥
-Known (same x y) = x ≡ y
+Known (has e i m c d) = (getD (e .keepin) 0 0 ≡ i) × (getD (e .keepmax) 0 0 ≡ m) × (getD (e .cap) 0 0 ≡ c) × (getD (e .drop) 0 0 ≡ d)
 Known (at-most a b) = AtMost a b
 Known (not-at-most a b) = AtMost a b → ⊥
 

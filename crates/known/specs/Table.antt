@@ -1,9 +1,8 @@
 -- Document 01's known answers, K1 to K11, as one table.
 use Prim.Native.Nat.{ℕ}
 use mathlib.Core.List.{List, [], _∷_}
-use Rattle.single.specs.declared.One.{One}
+use lib.ListN.{replicate}
 use Rattle.effect.specs.declared.Effect.{Effect}
-use Rattle.effect.specs.Six.{oneAt, effectOf}
 use Rattle.effect.specs.Whole.{nothingDone, grantOf, thenOf, bothOf}
 use Rattle.tables.specs.Kinds.{plainKind, grantKind, drawKind, callKind, returnKind}
 use Rattle.known.specs.File.{node, File}
@@ -15,8 +14,8 @@ pub data Claim : Type 0 where
   overdrawn : File → ℕ → Claim
   -- no run of the file arrives at the node
   unreached : File → ℕ → Claim
-  -- of effects at one type, the two are the same
-  same : One → One → Claim
+  -- of type 0 the effect has this keep-in, keep-max, cap and drop
+  has : Effect → ℕ → ℕ → ℕ → ℕ → Claim
   -- the first effect is at most the second; it is not
   at-most : Effect → Effect → Claim
   not-at-most : Effect → Effect → Claim
@@ -75,16 +74,13 @@ neverReturns =
       opening = (0, 0) ∷ [];
     }
 
--- keep-in, keep-max, cap, drop; and the effect that is so at every type
-abbrev pub one : ℕ → ℕ → ℕ → ℕ → One
-one i m c d = record { keepin = i; keepmax = m; cap = c; drop = d }
-
-abbrev pub every : One → Effect
-every x = effectOf (λ k. x)
+-- the effect with this keep-in, keep-max, cap and drop at every type
+abbrev pub every : ℕ → ℕ → ℕ → ℕ → Effect
+every i m c d = record { keepin = replicate 6 i; keepmax = replicate 6 m; cap = replicate 6 c; drop = replicate 6 d }
 
 -- a drop with all rights kept and cap 255
 abbrev pub dropping : ℕ → Effect
-dropping d = every (one 0 0xffff 255 d)
+dropping d = every 0 0xffff 255 d
 
 -- The number of each row, and what it says.
 unfoldable pub table : List (ℕ × Claim)
@@ -92,12 +88,12 @@ table =
     (1, passes (aWith 2 2))
     ∷ (2, overdrawn (aWith 2 3) 3)
     ∷ (3, passes (aWith 255 255))
-    ∷ (4, same (oneAt (thenOf (dropping 200) (dropping 100)) 0) (one 0 0xffff 255 255))
-    ∷ (5, same (oneAt (thenOf (dropping 253) (dropping 1)) 0) (one 0 0xffff 255 255))
-    ∷ (6, same (oneAt (bothOf (grantOf 0 0x0101 3) nothingDone) 0) (one 0 0x0101 3 0))
-    ∷ (7, at-most (every (one 0 0x0101 0 256)) (every (one 0 0x0101 5 9)))
-    ∷ (7, not-at-most (every (one 0 0x0101 5 9)) (every (one 0 0x0101 0 256)))
-    ∷ (8, same (oneAt (thenOf (grantOf 0 0x0101 2) (dropping 2)) 0) (one 0x0101 0x0101 0 256))
+    ∷ (4, has (thenOf (dropping 200) (dropping 100)) 0 0xffff 255 255)
+    ∷ (5, has (thenOf (dropping 253) (dropping 1)) 0 0xffff 255 255)
+    ∷ (6, has (bothOf (grantOf 0 0x0101 3) nothingDone) 0 0x0101 3 0)
+    ∷ (7, at-most (every 0 0x0101 0 256) (every 0 0x0101 5 9))
+    ∷ (7, not-at-most (every 0 0x0101 5 9) (every 0 0x0101 0 256))
+    ∷ (8, has (thenOf (grantOf 0 0x0101 2) (dropping 2)) 0x0101 0x0101 0 256)
     ∷ (9, overdrawn revoked 1)
     ∷ (10, overdrawn withoutRight 0)
     ∷ (11, unreached neverReturns 1)

@@ -5,7 +5,8 @@ use mathlib.Core.Bool.{Bool, true, false, cond}
 use mathlib.Core.List.{List}
 use lib.Dec.{eqb}
 use native.Mathlib.Omega.{arith}
-use Rattle.single.specs.Number.{pick, counted, rank}
+use Rattle.number.specs.Number.{pick, counted}
+use Rattle.number.specs.Formulas.{rank}
 use Rattle.effect.specs.declared.Stock.{Stock}
 use Rattle.effect.specs.declared.Effect.{Effect}
 use Rattle.effect.specs.Six.{heldAt, oneAt}

@@ -7,7 +7,8 @@ use Prim.Native.Nat.{ℕ, zero, suc, _≤_, _<_}
 use native.Mathlib.Nat.{le-trans, le-antisymm}
 use native.Mathlib.Omega.{arith}
 use Rattle.model.specs.Machine.{Graph, Doing, Frame, At, Arrives, Overdraws}
-use Rattle.model.specs.Rules.{Effects, Below, AtMost, Sheet, Reached, stock-at, rule1, rule5, Obeys, Under, Greatest}
+use Rattle.model.specs.Rules.{Effects, Below, AtMost, Sheet, Reached, stock-at, rule1, rule5, Under}
+use Rattle.model.proofs.Greatest.{Obeys, Greatest}
 use Rattle.model.proofs.Formed.{Formed}
 use Rattle.model.proofs.Setting.{Setting, Laws, Told}
 use Rattle.model.proofs.Sound.{Good, sound, sound-from, good-enter, good-again, good-called}

@@ -6,18 +6,18 @@ use mathlib.Core.Logic.{_⊎_, inl, inr}
 use mathlib.Core.Bool.{true}
 use mathlib.Core.List.{List, [], _∷_}
 use Prim.Native.Nat.{ℕ, zero, suc, _≤_, _<_}
+use lib.ListN.{replicate}
 use native.Mathlib.Nat.{le-refl, le-of-eq}
 use native.Mathlib.Omega.{arith}
-use Rattle.single.specs.Number.{less, rightsAfter, normDrop, thenCap, sumDrop, rank, countAtMost, countAfter, left, within}
-use Rattle.single.specs.Single.{normalForm, idle, drawn, applyOne, thenOne, atMostOne, heldAtMost, coversHeld}
 use Rattle.effect.specs.declared.Stock.{Stock}
 use Rattle.effect.specs.declared.Effect.{Effect}
-use Rattle.effect.specs.Six.{stockOf}
 use Rattle.effect.specs.Whole.{nothingDone, drawOf, applyOf, thenOf, atMostOf, stockAtMostOf, coversOf}
 use Rattle.effect.specs.Coordinate.{Coordinate, count, at}
-use Rattle.effect.proofs.Coordinate.{stock-at-sound, at-most-at-sound}
+use Rattle.effect.proofs.Compute.{less, rightsAfter, normDrop, thenCap, sumDrop, rank, countAtMost, countAfter, left, within, normalForm, idle, drawn, applyOne, thenOne, atMostOne, heldAtMost, coversHeld}
+use Rattle.effect.proofs.Coordinate.{stock-at-sound, at-most-at-sound, covers-sound}
 use Rattle.model.specs.Machine.{Graph, Frame, frame, At, Steps, stay, more, along, enter, again, back, Arrives, Overdraws}
-use Rattle.model.specs.Rules.{Below, AtMost, times, Sheet, AskMethod, AskNode, AskExit, rule1, rule2, rule3, rule4, rule5, rule6, rule7, rule8, rule9, rule10, Obeys}
+use Rattle.model.specs.Rules.{Below, AtMost, times, Sheet, AskMethod, AskNode, AskExit, rule1, rule2, rule3, rule4, rule5, rule6, rule7, rule8, rule9, rule10}
+use Rattle.model.proofs.Greatest.{Obeys}
 use Rattle.model.specs.Stocks.{permits, Does, plain, draw, done, doing, stepOf}
 use Rattle.model.proofs.Formed.{Formed}
 use Rattle.model.proofs.Setting.{Setting, apply-same}
@@ -108,7 +108,7 @@ fits (suc (suc zero)) = (omega arith, omega arith)
 fits (suc (suc (suc n))) = tt
 
 abbrev opening : Stock
-opening = stockOf (λ k. record { rights = 1; count = 5 })
+opening = record { rights = replicate 6 1; counts = replicate 6 5 }
 
 abbrev S : Setting
 S = record {
@@ -165,7 +165,7 @@ method-ok (rule8 ca y c01 (suc zero) rd) = (omega arith, stock-at-sound _ _ refl
 method-ok (rule8 ca y c01 (suc (suc j)) rd) = absurd (omega (arith, rd .0))
 
 door-ok : (m : ℕ) → m < 2 → (door m < 4) × AtMost permits (nodes (door m)) nothingDone
-unfolding atMostOf nothingDone atMostOne idle within countAtMost rank
+unfolding atMostOf nothingDone atMostOne normalForm normDrop idle within countAtMost rank
 door-ok zero h = (omega arith, test _ _ refl)
 door-ok (suc m) h = (omega arith, test _ _ refl)
 
@@ -263,5 +263,5 @@ safe = never-overdraws S T obeys covered
     covered : (n : ℕ) → (n < 4) × (home n < 2) → doing does .Covers n (applyOf (nodes n) (stocks (home n)))
     covered zero r = tt
     covered (suc zero) r = tt
-    covered (suc (suc zero)) r = two
+    covered (suc (suc zero)) r = covers-sound _ _ _ two
     covered (suc (suc (suc n))) r = tt

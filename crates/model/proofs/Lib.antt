@@ -1,3 +1,4 @@
+pub mod Greatest
 pub mod Formed
 pub mod Setting
 pub mod Sound

@@ -7,7 +7,8 @@ use Prim.Native.Nat.{ℕ, suc, _+_, _-_, _≤_, _<_}
 use native.Mathlib.Nat.{le-refl, le-trans}
 use native.Mathlib.Omega.{arith}
 use Rattle.model.specs.Machine.{Graph, Doing, Frame, frame, Config, At, Out, Step, along, enter, again, back, caught, leaves, handled, passes, Steps, stay, more, Run}
-use Rattle.model.specs.Rules.{Effects, Below, AtMost, times, Sheet, Reached, stock-at, after, Rounds, rule1, rule2, rule3, rule4, rule5, rule6, rule7, rule8, rule9, rule10, Obeys}
+use Rattle.model.specs.Rules.{Effects, Below, AtMost, times, Sheet, Reached, stock-at, after, Rounds, rule1, rule2, rule3, rule4, rule5, rule6, rule7, rule8, rule9, rule10}
+use Rattle.model.proofs.Greatest.{Obeys}
 use Rattle.model.proofs.Formed.{Formed}
 use Rattle.model.proofs.Setting.{Setting, Laws, Told, apply-same}
 

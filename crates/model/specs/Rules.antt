@@ -97,16 +97,9 @@ module _ (W : Effects) (G : Graph) (step : ℕ → W .Effect) (opening : W .Stoc
     pub nodes-obey : {n : ℕ} {e : Effect} → AskNode r n e → Node n × AtMost W (node n) e
     pub exits-obey : {m x : ℕ} {e : Effect} → AskExit r m x e → Exit m x × AtMost W (exit m x) e
 
-  abbrev pub Obeys : Type 0
-  Obeys = (r : ℕ) → Rule r
-
--- U marks each block that T marks, and says at most the same there.
+-- U marks each block that T marks, and says at most the same there. "Greatest means fewest marks, and under equal marks the greatest effects
+-- and stocks": every sheet that obeys is under the greatest.
 pub record Under (W : Effects) (G : Graph) (U T : Sheet W) : Type 0 where
   pub methods-under : (m : ℕ) → T .Called m → U .Called m × Below W (U .stock m) (T .stock m)
   pub nodes-under : (n : ℕ) → n < G .nodes → T .Node n → U .Node n × AtMost W (U .node n) (T .node n)
   pub exits-under : (m x : ℕ) → m < G .methods → T .Exit m x → U .Exit m x × AtMost W (U .exit m x) (T .exit m x)
-
--- The greatest sheet that obeys the rules. "Greatest means fewest marks, and under equal marks the greatest effects and stocks."
-pub record Greatest (W : Effects) (G : Graph) (step : ℕ → W .Effect) (opening : W .Stock) (T : Sheet W) : Type 1 where
-  pub obeys : Obeys W G step opening T
-  pub above-all : (U : Sheet W) → Obeys W G step opening U → Under W G U T

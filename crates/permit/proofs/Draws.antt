@@ -9,6 +9,7 @@ use borrow.Author.Tests.{eqb-true, eq-eqb, not-true}
 use Rattle.answer.specs.declared.Answer.the-variants.{Pass}
 use Rattle.effect.specs.Whole.{coversOf}
 use Rattle.effect.proofs.Bools.{and-l, and-r, and-i}
+use Rattle.effect.proofs.Coordinate.{covers-sound, covers-complete}
 use Rattle.model.specs.Stocks.{Covered}
 use Rattle.tables.specs.declared.Tables.{Tables}
 use Rattle.tables.specs.Trailer.{tablesOf}
@@ -37,11 +38,11 @@ module _ (f s : List ℕ) (pass : judgeOf f ≡ Pass) (n : ℕ) (l : n < tablesO
 
   covered : nodeKind f t n ≡ drawKind → covers ≡ true → IsCovered f s n
   unfolding covers
-  covered k h = subst (λ d. Covered d (stockIn f s n)) (sym (does-draw f t n l k)) h
+  covered k h = subst (λ d. Covered d (stockIn f s n)) (sym (does-draw f t n l k)) (covers-sound _ _ _ h)
 
   is-covered : nodeKind f t n ≡ drawKind → IsCovered f s n → covers ≡ true
   unfolding covers
-  is-covered k h = subst (λ d. Covered d (stockIn f s n)) (does-draw f t n l k) h
+  is-covered k h = covers-complete _ _ _ (subst (λ d. Covered d (stockIn f s n)) (does-draw f t n l k) h)
 
   pub uncovered-says : uncoveredAt f t (shapeOf t) s n ≡ true → IsReached f s n × (IsCovered f s n → ⊥)
   unfolding uncoveredAt covers

@@ -16,7 +16,7 @@ use Rattle.answer.specs.declared.Answer.the-variants.{Pass, BadSheet, BadBlock,
 use Rattle.answer.specs.Number.{numberOf}
 use Rattle.answer.proofs.Settled.{says-only, says}
 use Rattle.answer.proofs.Unpack.{zero-pass}
-use Rattle.model.specs.Rules.{Obeys}
+use Rattle.model.proofs.Greatest.{Obeys}
 use Rattle.model.specs.Stocks.{permits}
 use Rattle.model.specs.Program.{steps}
 use Rattle.model.proofs.Exact.{never-overdraws}

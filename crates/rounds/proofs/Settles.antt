@@ -17,7 +17,7 @@ module _ (x : Effect) where
 
   more-mono : (a b : Effect) → atMostOf a b ≡ true → atMostOf (more a) (more b) ≡ true
   more-mono a b h =
-      both-greatest (more a) x (thenOf b x) (both-normal x (thenOf a x)) (both-left x (thenOf a x))
+      both-greatest (more a) x (thenOf b x) (both-left x (thenOf a x))
       (at-most-trans (more a) (thenOf a x) (thenOf b x) (both-right x (thenOf a x)) (then-mono a b x x h (at-most-refl x)))
 
   more-six : (a : Effect) → SixOnes (more a)

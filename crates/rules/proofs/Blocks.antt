@@ -39,9 +39,9 @@ module _ (x : Shape) (s : List ℕ) (w : ℕ) where
   unfolding effectUnder
   effect-sound e h = (mark-true s w (and-l (marked s w) _ h), at-most-at-sound _ e (and-r (marked s w) _ h))
 
-  effect-complete : (e : Effect) → markAt s w ≡ 1 → normalOf (effectAt s (x .types) w) ≡ true → AtMost permits (effectAt s (x .types) w) e → effectUnder s x w e ≡ true
+  effect-complete : (e : Effect) → markAt s w ≡ 1 → AtMost permits (effectAt s (x .types) w) e → effectUnder s x w e ≡ true
   unfolding effectUnder
-  effect-complete e m n h = and-i (true-mark s w m) (at-most-at-complete _ e n (λ k l. effect-read s (x .types) w .fit k l .keepmax-fits) h)
+  effect-complete e m h = and-i (true-mark s w m) (at-most-at-complete _ e (λ k l. effect-read s (x .types) w .fit k l .keepmax-fits) h)
 
   stock-sound : (h : Stock) → stockUnder s x w h ≡ true → (markAt s w ≡ 1) × Below permits (stockAt s (x .types) w) h
   unfolding stockUnder
@@ -58,35 +58,16 @@ module _ (x : Shape) (s : List ℕ) (whole : firstIll s x ≡ blockCount x) wher
   pub block-formed : (b : ℕ) → b < blockCount x → Formed s x b
   block-formed b l = formed s x b (is-lowest (illBlock s x) (blockCount x) .before b (omega (arith, whole)))
 
-  node-normal : (n : ℕ) → Node n → normalOf (node n) ≡ true
-  node-normal n y =
-      let b = 10 * x .methods + n in
-      let e = block-node x n in
-      let i : isStock x b ≡ false = simp (le-ltb b (10 * x .methods) (omega arith)) in
-      rw e at (block-formed b (omega (arith, y .0)) .normal i (rw e (y .1)))
-
-  exit-normal : (m e : ℕ) → Exit m e → normalOf (exit m e) ≡ true
-  exit-normal m e y =
-      let b = 10 * m + 1 + e in
-      let q = block-exit x m (y .0) e (y .1) in
-      let r : (b % 10 ≡ 0 → ⊥) = omega (arith, y .1) in
-      let i : isStock x b ≡ false = tail (ltb b (10 * x .methods)) (ne-eqb (b % 10) 0 r) in
-      rw q at (block-formed b (omega (arith, y .0, y .1)) .normal i (rw q (y .2)))
-    where
-      tail : (a : Bool) {c : Bool} → c ≡ false → a && c ≡ false
-      tail true h = h
-      tail false h = refl
-
   pub node-under : (n : ℕ) (e : Effect) → n < x .nodes → (effectUnder s x (nodeAt x n) e ≡ true) ↔ (Node n × AtMost permits (node n) e)
   node-under n e l = (
     λ h. let p = effect-sound x s (nodeAt x n) e h in ((l, p .0), p .1),
-    λ p. effect-complete x s (nodeAt x n) e (p .0 .1) (node-normal n (p .0)) (p .1),
+    λ p. effect-complete x s (nodeAt x n) e (p .0 .1) (p .1),
   )
 
   pub exit-under : (m y : ℕ) (e : Effect) → m < x .methods → y < 9 → (effectUnder s x (exitAt x m y) e ≡ true) ↔ (Exit m y × AtMost permits (exit m y) e)
   exit-under m y e l k = (
     λ h. let p = effect-sound x s (exitAt x m y) e h in ((l, k, p .0), p .1),
-    λ p. effect-complete x s (exitAt x m y) e (p .0 .2) (exit-normal m y (p .0)) (p .1),
+    λ p. effect-complete x s (exitAt x m y) e (p .0 .2) (p .1),
   )
 
   pub method-under : (m : ℕ) (h : Stock) → m < x .methods → (stockUnder s x (methodAt x m) h ≡ true) ↔ (Called m × Below permits (stock m) h)

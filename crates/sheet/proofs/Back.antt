@@ -13,7 +13,8 @@ use Rattle.words.proofs.Read.{byte-past, word-lt}
 use Rattle.layout.specs.Layout.{stockSize, effectSize}
 use Rattle.single.specs.declared.Held.{Held}
 use Rattle.single.specs.declared.One.{One}
-use Rattle.single.specs.Single.{idle, normalOne}
+use Rattle.single.specs.Single.{idle}
+use Rattle.single.specs.Formulas.{normalOne}
 use Rattle.effect.specs.declared.Stock.{Stock}
 use Rattle.effect.specs.declared.Effect.{Effect}
 use Rattle.effect.specs.Six.{heldAt, oneAt, heldIf, noneHeld}

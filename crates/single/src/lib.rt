@@ -1,8 +1,7 @@
 // Stocks and effects of one type.
-mod number;
-
 ghost use mathlib.Core.Path.{_≡_};
-ghost use Rattle.single.specs.Single.{normalForm, normalOne, idle, drawn, granted, applyOne, thenOne, bothOne, atMostOne, heldAtMost, lowerHeld, coversHeld};
+ghost use Rattle.single.specs.Single.{dropOnly, idle, applyOne};
+ghost use Rattle.single.specs.Formulas.{normalForm, normalOne, drawn, granted, thenOne, bothOne, atMostOne, heldAtMost, lowerHeld, coversHeld};
 
 // What a stock holds of one type.
 pub struct Held {
@@ -38,26 +37,28 @@ pub fn normal(x: One) -> bool
     i & (c & d)
 }
 
-pub fn nothing_done() -> One
-    ensures { λ r. ⌜ r ≡ idle ⌝ }
+// All is kept but what is dropped.
+fn dropping(d: u16) -> One
+    ensures { λ r. ⌜ r ≡ dropOnly d ⌝ }
 {
     One {
         keepin: 0,
         keepmax: 65535,
         cap: 255,
-        drop: 0,
+        drop: d,
     }
+}
+
+pub fn nothing_done() -> One
+    ensures { λ r. ⌜ r ≡ idle ⌝ }
+{
+    dropping(0)
 }
 
 pub fn draw() -> One
     ensures { λ r. ⌜ r ≡ drawn ⌝ }
 {
-    One {
-        keepin: 0,
-        keepmax: 65535,
-        cap: 255,
-        drop: 1,
-    }
+    dropping(1)
 }
 
 pub fn grant(rights: u16, count: u16) -> One
@@ -105,10 +106,11 @@ pub fn both(x: One, y: One) -> One
     })
 }
 
+// x leaves at most what y leaves. What keep-in has beyond keep-max is never left, so it is not compared.
 pub fn at_most(x: One, y: One) -> bool
     ensures { λ r. ⌜ r ≡ atMostOne x y ⌝ }
 {
-    let i = number::within_of(x.keepin, y.keepin);
+    let i = number::within_of(x.keepin & x.keepmax, y.keepin);
     let m = number::within_of(x.keepmax, y.keepmax);
     let c = number::count_at_most(x.cap, x.drop, y.cap, y.drop);
     i & (m & c)

@@ -14,7 +14,7 @@ use Rattle.answer.specs.declared.Answer.the-variants.{Pass}
 use Rattle.answer.proofs.Settled.{says}
 use Rattle.effect.specs.declared.Stock.{Stock}
 use Rattle.effect.specs.Coordinate.{Coordinate, right, count, at}
-use Rattle.model.specs.Rules.{Greatest}
+use Rattle.model.proofs.Greatest.{Greatest}
 use Rattle.model.specs.Stocks.{permits}
 use Rattle.model.specs.Program.{steps}
 use Rattle.model.proofs.Setting.{Told}

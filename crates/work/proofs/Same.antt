@@ -83,7 +83,7 @@ module _ (t w : ℕ) where
       → AtMost permits (effectAt r t w) (effectAt s t w) → effectAt s t w ≡ effectAt r t w
   one-effect s r m n p q =
       at-most-anti (effectAt s t w) (effectAt r t w) m n (effect-read s t w .six) (effect-read r t w .six)
-      (at-most-at-complete _ _ m (λ k l. effect-read s t w .fit k l .keepmax-fits) p) (at-most-at-complete _ _ n (λ k l. effect-read r t w .fit k l .keepmax-fits) q)
+      (at-most-at-complete _ _ (λ k l. effect-read s t w .fit k l .keepmax-fits) p) (at-most-at-complete _ _ (λ k l. effect-read r t w .fit k l .keepmax-fits) q)
 
 -- where r marks a block, s does and says at most the same there
 abbrev pub StockUnder : (t w : ℕ) → List ℕ → List ℕ → Type 0

@@ -42,7 +42,7 @@ returns-2 c =
     let k : nodeKind (now (a .f)) (a .t) (flowFrom (now (a .f)) (a .t) (a .k)) ≤ 2 = rw (← n, ← kind .node-kind .ensures .0) (mark .before .if1 .left) in
     let m : marked (now (a .s)) (nodeAt (a .x) (flowFrom (now (a .f)) (a .t) (a .k))) ≡ true = ap (marked (now (a .s))) (sym w) ∙ sym (mark .is-marked .ensures) ∙ eff .before .if2 .taken in
     ask-same (c .ask .ensures) (c .before .node-at2 .ensures .0 ∙ ap (nodeAt (a .x)) (to .flow-to .ensures .0))
-    (then .then .ensures
+    (then .then .ensures .0
     ∙ (λ i. thenOf ((eff .effect .ensures ∙ ap (effectAt (now (a .s)) (a .x .types)) w) i) ((step .step .ensures ∙ ap (λ j. stepOf (doesIn (now (a .f)) (a .t) j)) n) i)))
     ∙ simp (le-leb _ _ k, m)
 

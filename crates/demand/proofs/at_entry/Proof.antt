@@ -12,7 +12,7 @@ unfolding entryDemand
 returns c =
     let w = c .before .before in
     let e = w .before in
-    ask-same (c .ask .ensures) (w .node-at .ensures .0 ∙ ap (nodeAt (e .before .before .args .x)) (e .entry .ensures .0)) (c .before .nothing-done .ensures)
+    ask-same (c .ask .ensures) (w .node-at .ensures .0 ∙ ap (nodeAt (e .before .before .args .x)) (e .entry .ensures .0)) (c .before .nothing-done .ensures .0)
 
 pub at-entry-spec : {M : Type 1} → statement M
 at-entry-spec =

@@ -14,7 +14,7 @@ returns c =
     let eff = c .before in
     let exit = eff .before in
     let a = exit .before .before .before .before .args in
-    c .then .ensures ∙ ap (thenOf (a .c .rounds .earlier)) (eff .effect .ensures ∙ ap (effectAt (now (a .s)) (a .x .types)) (exit .exit-at .ensures .0))
+    c .then .ensures .0 ∙ ap (thenOf (a .c .rounds .earlier)) (eff .effect .ensures ∙ ap (effectAt (now (a .s)) (a .x .types)) (exit .exit-at .ensures .0))
 
 pub thrown-spec : {M : Type 1} → statement M
 thrown-spec =

@@ -1,19 +1,21 @@
 use borrow.Author.Needs.{needs}
-use mathlib.Core.Path.{_∙_}
-use Rattle.effect.specs.Six.{effectOf, among}
+use lib.Dec.{eqb}
+use Rattle.effect.specs.Whole.{oneIf}
+use Rattle.effect.proofs.Six.{made-effect}
 use Rattle.effect.proofs.only.Statement.{statement}
 use Rattle.effect.proofs.only.Tie as tie
 
 returns : tie.Need-returns
 returns c =
-    c .effect-of .ensures
-    ∙ (λ i. effectOf (among
-    (c .before .before .before .before .before .before .one-if .ensures i)
-    (c .before .before .before .before .before .one-if2 .ensures i)
-    (c .before .before .before .before .one-if3 .ensures i)
-    (c .before .before .before .one-if4 .ensures i)
-    (c .before .before .one-if5 .ensures i)
-    (c .before .one-if6 .ensures i)))
+    let a = c .before .before .before .before .before .before .before .args in
+    made-effect (λ k. oneIf (eqb k (a .t)) (a .x))
+    (c .before .before .before .before .before .before .one-if .ensures)
+    (c .before .before .before .before .before .one-if2 .ensures)
+    (c .before .before .before .before .one-if3 .ensures)
+    (c .before .before .before .one-if4 .ensures)
+    (c .before .before .one-if5 .ensures)
+    (c .before .one-if6 .ensures)
+    (c .effect-of .ensures)
 
 pub only-spec : {M : Type 1} → statement M
 only-spec = tie.close (tie.spec (λ c κs. search needs) (λ c κs. search needs) (λ c κs. search needs) (λ c κs. search needs) (λ c κs. search needs) (λ c κs. search needs) (λ c κs. search needs) returns)

@@ -6,7 +6,7 @@ returns : tie.Need-returns
 returns c = simp (c .before .before .if1 .taken, c .before .stock .ensures, c .counts-fit .ensures)
 
 returns-2 : tie.Need-returns-2
-returns-2 c = simp (c .before .before .if1 .left, c .before .effect .ensures, c .normal .ensures)
+returns-2 c = simp (c .before .before .if1 .left, c .before .effect .ensures, c .normal .ensures .0)
 
 pub content-fits-spec : {M : Type 1} → statement M
 content-fits-spec =

@@ -18,7 +18,7 @@ returns c =
     let a = mark .before .before .before .args in
     let m : marked (now (a .s)) (a .w) ≡ true = sym (mark .is-marked .ensures) ∙ read .before .before .if1 .taken in
     let q : atMostOf (effectAt (now (a .s)) (a .x .types) (a .w)) (a .e) ≡ true =
-    ap (λ v. atMostOf v (a .e)) (sym (read .effect .ensures)) ∙ sym (c .before .at-most .ensures) ∙ c .if2 .taken in
+    ap (λ v. atMostOf v (a .e)) (sym (read .effect .ensures)) ∙ sym (c .before .at-most .ensures .0) ∙ c .if2 .taken in
     (simp (m, q), simp (m, q))
 
 returns-2 : tie.Need-returns-2
@@ -30,8 +30,8 @@ returns-2 c =
     let a = mark .before .before .before .args in
     let m : marked (now (a .s)) (a .w) ≡ true = sym (mark .is-marked .ensures) ∙ read .before .before .if1 .taken in
     let q : atMostOf (effectAt (now (a .s)) (a .x .types) (a .w)) (a .e) ≡ false =
-    ap (λ v. atMostOf v (a .e)) (sym (read .effect .ensures)) ∙ sym (write .before .before .before .before .at-most .ensures) ∙ write .before .before .before .if2 .left in
-    (simp (m, q), simp (write .write-effect .ensures, write .before .both .ensures, read .effect .ensures, m, q))
+    ap (λ v. atMostOf v (a .e)) (sym (read .effect .ensures)) ∙ sym (write .before .before .before .before .at-most .ensures .0) ∙ write .before .before .before .if2 .left in
+    (simp (m, q), simp (write .write-effect .ensures, write .before .both .ensures .0, read .effect .ensures, m, q))
 
 returns-3 : tie.Need-returns-3
 unfolding effectUnder effectTo

@@ -18,7 +18,7 @@ returns c =
     let a = mark .before .before .before .args in
     let m : marked (now (a .s)) (a .w) ≡ true = sym (mark .is-marked .ensures) ∙ read .before .before .if1 .taken in
     let q : stockAtMostOf (stockAt (now (a .s)) (a .x .types) (a .w)) (a .h) ≡ true =
-    ap (λ v. stockAtMostOf v (a .h)) (sym (read .stock .ensures)) ∙ sym (c .before .stock-at-most .ensures) ∙ c .if2 .taken in
+    ap (λ v. stockAtMostOf v (a .h)) (sym (read .stock .ensures)) ∙ sym (c .before .stock-at-most .ensures .0) ∙ c .if2 .taken in
     (simp (m, q), simp (m, q))
 
 returns-2 : tie.Need-returns-2
@@ -30,8 +30,8 @@ returns-2 c =
     let a = mark .before .before .before .args in
     let m : marked (now (a .s)) (a .w) ≡ true = sym (mark .is-marked .ensures) ∙ read .before .before .if1 .taken in
     let q : stockAtMostOf (stockAt (now (a .s)) (a .x .types) (a .w)) (a .h) ≡ false =
-    ap (λ v. stockAtMostOf v (a .h)) (sym (read .stock .ensures)) ∙ sym (write .before .before .before .before .stock-at-most .ensures) ∙ write .before .before .before .if2 .left in
-    (simp (m, q), simp (write .write-stock .ensures, write .before .lower .ensures, read .stock .ensures, m, q))
+    ap (λ v. stockAtMostOf v (a .h)) (sym (read .stock .ensures)) ∙ sym (write .before .before .before .before .stock-at-most .ensures .0) ∙ write .before .before .before .if2 .left in
+    (simp (m, q), simp (write .write-stock .ensures, write .before .lower .ensures .0, read .stock .ensures, m, q))
 
 returns-3 : tie.Need-returns-3
 unfolding stockUnder stockTo

@@ -8,7 +8,7 @@ use Rattle.nodes.proofs.step.Tie as tie
 returns : tie.Need-returns
 returns c =
     let a = c .before .before .before .before .args in
-    step-plain (c .nothing-done .result) (does-outside (now (a .f)) (a .t) (a .n) (c .before .if1 .taken)) (c .nothing-done .ensures)
+    step-plain (c .nothing-done .result) (does-outside (now (a .f)) (a .t) (a .n) (c .before .if1 .taken)) (c .nothing-done .ensures .0)
 
 returns-2 : tie.Need-returns-2
 returns-2 c =
@@ -20,7 +20,7 @@ returns-2 c =
     let a = inside .before .before .before .args in
     step-grant (c .grant .result)
     (does-grant (now (a .f)) (a .t) (a .n) (inside .if1 .left) (sym (kind .node-kind .ensures .0) ∙ number .before .if2 .taken))
-    (c .grant .ensures) (number .node-number .ensures .0) (rights .node-rights .ensures .0) (count .node-count .ensures .0)
+    (c .grant .ensures .0) (number .node-number .ensures .0) (rights .node-rights .ensures .0) (count .node-count .ensures .0)
 
 returns-3 : tie.Need-returns-3
 returns-3 c =
@@ -30,7 +30,7 @@ returns-3 c =
     let a = inside .before .before .before .args in
     step-draw (c .draw .result)
     (does-draw (now (a .f)) (a .t) (a .n) (inside .if1 .left) (sym (kind .node-kind .ensures .0) ∙ number .before .if3 .taken))
-    (c .draw .ensures) (number .node-number2 .ensures .0)
+    (c .draw .ensures .0) (number .node-number2 .ensures .0)
 
 returns-4 : tie.Need-returns-4
 returns-4 c =
@@ -42,7 +42,7 @@ returns-4 c =
     (does-plain (now (a .f)) (a .t) (a .n) (inside .if1 .left)
     (λ e. other .before .if2 .left (kind .node-kind .ensures .0 ∙ e))
     (λ e. other .if3 .left (kind .node-kind .ensures .0 ∙ e)))
-    (c .nothing-done2 .ensures)
+    (c .nothing-done2 .ensures .0)
 
 pub step-spec : {M : Type 1} → statement M
 step-spec =

@@ -30,7 +30,7 @@ returns c =
     let a = l .before .args in
     let e = one-more (a .x) (l .loop .i) (l .loop .inv .1) (next .next .ensures) in
     let stays : atMostOf (lowest-rounds permits (a .x) (l .loop .i)) (lowest-rounds permits (a .x) (suc (l .loop .i))) ≡ true =
-    sym (λ k. atMostOf (l .loop .inv .1 k) (e k)) ∙ sym (test .at-most .ensures) ∙ c .if2 .taken in
+    sym (λ k. atMostOf (l .loop .inv .1 k) (e k)) ∙ sym (test .at-most .ensures .0) ∙ c .if2 .taken in
     e ∙ settles (a .x) (l .loop .i) stays (a .j) (next .before .loop-test .taken)
 
 loop-again : tie.Need-loop-again Inv-loop μ-loop

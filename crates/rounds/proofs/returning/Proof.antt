@@ -6,14 +6,14 @@ use Rattle.rounds.proofs.returning.Tie as tie
 returns : tie.Need-returns
 returns c =
     let a = c .before .before .args in
-    one-round (a .call) (a .x) (c .then .result) (a .repeats) (search needs) (c .then .ensures)
+    one-round (a .call) (a .x) (c .then .result) (a .repeats) (search needs) (c .then .ensures .0)
 
 returns-2 : tie.Need-returns-2
 returns-2 c =
     let b = c .before .before in
     let l = b .before .before in
     let a = l .before .before .args in
-    more-rounds (a .call) (a .x) (l .lowest .result) (b .before .then2 .result) (b .both .result) (c .before .next .result) (c .then3 .result) (a .repeats) (search needs) (l .lowest .ensures) (b .before .then2 .ensures) (b .both .ensures) (c .before .next .ensures) (c .then3 .ensures)
+    more-rounds (a .call) (a .x) (l .lowest .result) (b .before .then2 .result) (b .both .result) (c .before .next .result) (c .then3 .result) (a .repeats) (search needs) (l .lowest .ensures) (b .before .then2 .ensures .0) (b .both .ensures .0) (c .before .next .ensures) (c .then3 .ensures .0)
 
 pub returning-spec : {M : Type 1} → statement M
 returning-spec = tie.close (tie.spec (λ c κs. search needs) returns (λ c κs. search needs) (λ c κs. search needs) (λ c κs. search needs) (λ c κs. search needs) (λ c κs. search needs) returns-2)

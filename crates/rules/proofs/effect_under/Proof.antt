@@ -14,7 +14,7 @@ returns c =
     let mark = c .before .before .before in
     let a = mark .before .before .args in
     let m : marked (now (a .s)) (a .w) ≡ true = sym (mark .is-marked .ensures) ∙ c .before .before .if1 .taken in
-    c .at-most .ensures ∙ ap (λ v. atMostOf v (a .e)) (c .before .effect .ensures) ∙ simp m
+    c .at-most .ensures .0 ∙ ap (λ v. atMostOf v (a .e)) (c .before .effect .ensures) ∙ simp m
 
 returns-2 : tie.Need-returns-2
 unfolding effectUnder

@@ -14,7 +14,7 @@ returns c =
     let mark = c .before .before .before in
     let a = mark .before .before .args in
     let m : marked (now (a .s)) (a .w) ≡ true = sym (mark .is-marked .ensures) ∙ c .before .before .if1 .taken in
-    c .stock-at-most .ensures ∙ ap (λ v. stockAtMostOf v (a .h)) (c .before .stock .ensures) ∙ simp m
+    c .stock-at-most .ensures .0 ∙ ap (λ v. stockAtMostOf v (a .h)) (c .before .stock .ensures) ∙ simp m
 
 returns-2 : tie.Need-returns-2
 unfolding stockUnder

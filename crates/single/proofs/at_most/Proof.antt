@@ -1,10 +1,10 @@
 use borrow.Author.Needs.{needs}
-use Rattle.single.specs.Single.{atMostOne}
+use Rattle.single.specs.Formulas.{normalForm, atMostOne}
 use Rattle.single.proofs.at_most.Statement.{statement}
 use Rattle.single.proofs.at_most.Tie as tie
 
 returns : tie.Need-returns
-unfolding atMostOne
+unfolding atMostOne normalForm
 returns c = simp (c .before .before .within-of .ensures, c .before .within-of2 .ensures, c .count-at-most .ensures)
 
 pub at-most-spec : {M : Type 1} → statement M

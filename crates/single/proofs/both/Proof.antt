@@ -1,5 +1,5 @@
 use borrow.Author.Needs.{needs}
-use Rattle.single.specs.Single.{bothOne}
+use Rattle.single.specs.Formulas.{bothOne}
 use Rattle.single.proofs.both.Statement.{statement}
 use Rattle.single.proofs.both.Tie as tie
 

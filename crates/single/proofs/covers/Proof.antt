@@ -1,5 +1,5 @@
 use borrow.Author.Needs.{needs}
-use Rattle.single.specs.Single.{coversHeld}
+use Rattle.single.specs.Formulas.{coversHeld}
 use Rattle.single.proofs.covers.Statement.{statement}
 use Rattle.single.proofs.covers.Tie as tie
 

@@ -1,11 +1,11 @@
-use mathlib.Core.Path.{refl}
-use Rattle.single.specs.Single.{drawn}
+use borrow.Author.Needs.{needs}
+use Rattle.single.specs.Formulas.{drawn}
 use Rattle.single.proofs.draw.Statement.{statement}
 use Rattle.single.proofs.draw.Tie as tie
 
 returns : tie.Need-returns
 unfolding drawn
-returns c = refl
+returns c = c .dropping .ensures
 
 pub draw-spec : {M : Type 1} → statement M
-draw-spec = tie.close (tie.spec returns)
+draw-spec = tie.close (tie.spec (λ c κs. search needs) returns)

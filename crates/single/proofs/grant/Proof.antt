@@ -1,5 +1,5 @@
 use borrow.Author.Needs.{needs}
-use Rattle.single.specs.Single.{granted}
+use Rattle.single.specs.Formulas.{granted}
 use Rattle.single.proofs.grant.Statement.{statement}
 use Rattle.single.proofs.grant.Tie as tie
 

@@ -1,5 +1,5 @@
 use borrow.Author.Needs.{needs}
-use Rattle.single.specs.Single.{lowerHeld}
+use Rattle.single.specs.Formulas.{lowerHeld}
 use Rattle.single.proofs.lower.Statement.{statement}
 use Rattle.single.proofs.lower.Tie as tie
 

@@ -1,5 +1,5 @@
 use borrow.Author.Needs.{needs}
-use Rattle.single.specs.Single.{normalOne}
+use Rattle.single.specs.Formulas.{normalOne}
 use Rattle.single.proofs.normal.Statement.{statement}
 use Rattle.single.proofs.normal.Tie as tie
 

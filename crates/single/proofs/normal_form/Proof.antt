@@ -1,5 +1,5 @@
 use borrow.Author.Needs.{needs}
-use Rattle.single.specs.Single.{normalForm}
+use Rattle.single.specs.Formulas.{normalForm}
 use Rattle.single.proofs.normal_form.Statement.{statement}
 use Rattle.single.proofs.normal_form.Tie as tie
 

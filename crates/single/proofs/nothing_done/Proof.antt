@@ -1,11 +1,11 @@
-use mathlib.Core.Path.{refl}
+use borrow.Author.Needs.{needs}
 use Rattle.single.specs.Single.{idle}
 use Rattle.single.proofs.nothing_done.Statement.{statement}
 use Rattle.single.proofs.nothing_done.Tie as tie
 
 returns : tie.Need-returns
 unfolding idle
-returns c = refl
+returns c = c .dropping .ensures
 
 pub nothing-done-spec : {M : Type 1} → statement M
-nothing-done-spec = tie.close (tie.spec returns)
+nothing-done-spec = tie.close (tie.spec (λ c κs. search needs) returns)

@@ -1,5 +1,5 @@
 use borrow.Author.Needs.{needs}
-use Rattle.single.specs.Single.{heldAtMost}
+use Rattle.single.specs.Formulas.{heldAtMost}
 use Rattle.single.proofs.stock_at_most.Statement.{statement}
 use Rattle.single.proofs.stock_at_most.Tie as tie
 

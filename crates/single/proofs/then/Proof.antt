@@ -1,5 +1,5 @@
 use borrow.Author.Needs.{needs}
-use Rattle.single.specs.Single.{thenOne}
+use Rattle.single.specs.Formulas.{thenOne}
 use Rattle.single.proofs.then.Statement.{statement}
 use Rattle.single.proofs.then.Tie as tie
 
