@@ -1,9 +1,10 @@
 /* Compares Snellair with the peer on generated cases: packed answers and all
  * bytes lent. Takes a seed and a number of cases; ends with status 1 at the
- * first difference. */
+ * first difference, or if too few graphs came to a verdict. */
 #include "generate.h"
 #include "peer.h"
 #include "snellair.h"
+#include "tally.h"
 
 #include <inttypes.h>
 #include <stdio.h>
@@ -22,9 +23,10 @@ struct one_case {
     uint8_t ours[ROOM], theirs[ROOM];
 };
 
-/* How often each answer came. */
-struct tally {
-    unsigned long work_out[14], check[14];
+/* What came of work out with a sheet of another length and of the right one,
+ * and of check. */
+struct tallies {
+    struct tally wrong_length, work_out, check;
 };
 
 /* Both sides are lent the same bytes. */
@@ -69,7 +71,7 @@ static bool compare_work_out(struct one_case *c, size_t sheet_len,
                                   sheet_len);
     uint64_t theirs = snellair_work_out(c->graph, c->graph_len,
                                         c->theirs + MARGIN, sheet_len);
-    tally->work_out[ours & 0xFF]++;
+    tally_note(tally, ours);
     return agree(c, "work out", ours, theirs);
 }
 
@@ -81,7 +83,7 @@ static bool compare_check(struct one_case *c, size_t sheet_len,
                                sheet_len);
     uint64_t theirs = snellair_check(c->graph, c->graph_len,
                                      c->theirs + MARGIN, sheet_len);
-    tally->check[ours & 0xFF]++;
+    tally_note(tally, ours);
     return agree(c, "check", ours, theirs);
 }
 
@@ -113,7 +115,7 @@ static void work_out_for_other_opening(struct random *r, struct one_case *c)
                   sheet_bytes(draft_shape(&other)));
 }
 
-static bool compare_case(struct one_case *c, struct tally *tally)
+static bool compare_case(struct one_case *c, struct tallies *tallies)
 {
     struct random r = random_of(c->seed, c->number);
     uint8_t worked[MOST_SHEET_BYTES];
@@ -121,35 +123,25 @@ static bool compare_case(struct one_case *c, struct tally *tally)
     struct shape s = draft_shape(&c->draft);
     size_t right = sheet_bytes(s);
     random_fill(&r, c->ours, right + MOST_ADDED + 2 * MARGIN);
-    if (!compare_work_out(c, generate_wrong_length(&r, right), tally)
-        || !compare_work_out(c, right, tally))
+    if (!compare_work_out(c, generate_wrong_length(&r, right),
+                          &tallies->wrong_length)
+        || !compare_work_out(c, right, &tallies->work_out))
         return false;
     memcpy(worked, c->ours + MARGIN, right);
     for (unsigned i = 0; i < 2 * SHEET_KINDS; i++) {
         size_t length = generate_sheet(&r, i % SHEET_KINDS, s, worked,
                                        c->ours + MARGIN);
-        if (!compare_check(c, length, tally))
+        if (!compare_check(c, length, &tallies->check))
             return false;
     }
     work_out_for_other_opening(&r, c);
-    return compare_check(c, right, tally);
-}
-
-static void print_tally(const char *operation, const unsigned long times[14])
-{
-    unsigned long all = 0;
-    for (unsigned number = 0; number <= 13; number++)
-        all += times[number];
-    printf("%s, %lu times, by answer:", operation, all);
-    for (unsigned number = 0; number <= 13; number++)
-        printf(" %u:%lu", number, times[number]);
-    printf("\n");
+    return compare_check(c, right, &tallies->check);
 }
 
 int main(int argc, char **argv)
 {
     static struct one_case c;
-    struct tally tally = {{0}, {0}};
+    static struct tallies tallies;
     if (argc != 3) {
         fprintf(stderr, "usage: compare SEED CASES\n");
         return 2;
@@ -157,13 +149,18 @@ int main(int argc, char **argv)
     c.seed = strtoull(argv[1], NULL, 10);
     uint64_t cases = strtoull(argv[2], NULL, 10);
     for (c.number = 0; c.number < cases; c.number++)
-        if (!compare_case(&c, &tally)) {
+        if (!compare_case(&c, &tallies)) {
             printf("%" PRIu64 " cases before it without a difference\n",
                    c.number);
             return 1;
         }
-    print_tally("work out", tally.work_out);
-    print_tally("check", tally.check);
+    tally_print("work out, wrong length", &tallies.wrong_length);
+    tally_print("work out", &tallies.work_out);
+    tally_print("check", &tallies.check);
     printf("%" PRIu64 " cases, no difference\n", cases);
+    if (2 * tally_verdicts(&tallies.work_out) < cases) {
+        printf("fewer than half of the graphs came to a verdict\n");
+        return 1;
+    }
     return 0;
 }

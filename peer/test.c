@@ -5,6 +5,7 @@
 #include "generate.h"
 #include "peer.h"
 #include "runs.h"
+#include "tally.h"
 
 #include <inttypes.h>
 #include <stdio.h>
@@ -457,7 +458,7 @@ static bool is_below(struct shape s, const uint8_t *sheet,
 }
 
 static void test_sheets_of(struct random *r, const struct draft *d,
-                           const uint8_t *greatest, unsigned long seen[14])
+                           const uint8_t *greatest, struct tally *seen)
 {
     uint8_t graph[MOST_GRAPH_BYTES], sheet[ROOM];
     size_t length = draft_write(d, graph);
@@ -466,7 +467,7 @@ static void test_sheets_of(struct random *r, const struct draft *d,
         enum sheet_kind kind = i % SHEET_KINDS;
         size_t sheet_len = generate_sheet(r, kind, s, greatest, sheet);
         uint64_t answer = check(graph, length, sheet, sheet_len);
-        seen[answer & 0xFF]++;
+        tally_note(seen, answer);
         if (is_verdict(answer))
             expect(is_below(s, sheet, greatest), "obeys, so below", answer);
         if (kind == WRONG_LENGTH)
@@ -478,46 +479,37 @@ static void test_sheets_of(struct random *r, const struct draft *d,
     }
 }
 
-static void print_seen(const char *what, unsigned long cases,
-                       const unsigned long seen[14])
-{
-    printf("%s: %lu cases, by answer", what, cases);
-    for (unsigned number = 0; number <= 13; number++)
-        printf(" %u:%lu", number, seen[number]);
-    printf("\n");
-}
-
 static void test_small_graphs(unsigned cases, struct draft *d, uint8_t *sheet)
 {
-    unsigned long worked[14] = {0}, checked[14] = {0};
+    struct tally worked = {{0}}, checked = {{0}};
     for (unsigned i = 0; i < cases; i++) {
         struct random r = random_of(SEED + 1, i);
         generate_graph(&r, &small, d);
         uint64_t answer = work_out_draft(d, sheet);
         expect(is_verdict(answer), "generated graphs are well formed", answer);
-        worked[answer & 0xFF]++;
-        test_sheets_of(&r, d, sheet, checked);
+        tally_note(&worked, answer);
+        test_sheets_of(&r, d, sheet, &checked);
     }
-    print_seen("small graphs", cases, worked);
-    print_seen("their sheets", cases * 3ul * SHEET_KINDS, checked);
+    tally_print("small graphs", &worked);
+    tally_print("their sheets", &checked);
 }
 
 static void test_limit_graphs(unsigned cases, struct draft *d, uint8_t *sheet)
 {
-    unsigned long worked[14] = {0};
+    struct tally worked = {{0}};
     for (unsigned i = 0; i < cases; i++) {
         struct random r = random_of(SEED + 2, i);
         generate_limit_graph(&r, d);
         uint64_t answer = work_out_draft(d, sheet);
         expect(is_verdict(answer), "limit graphs are well formed", answer);
-        worked[answer & 0xFF]++;
+        tally_note(&worked, answer);
     }
-    print_seen("limit-size graphs", cases, worked);
+    tally_print("limit-size graphs", &worked);
 }
 
 static void test_damaged_files(unsigned cases, struct draft *d, uint8_t *sheet)
 {
-    unsigned long worked[14] = {0};
+    struct tally worked = {{0}};
     for (unsigned i = 0; i < cases; i++) {
         struct random r = random_of(SEED + 3, i);
         uint8_t graph[MOST_GRAPH_BYTES + MOST_ADDED];
@@ -526,9 +518,9 @@ static void test_damaged_files(unsigned cases, struct draft *d, uint8_t *sheet)
         length = generate_damage(&r, d, graph, length);
         size_t sheet_len = sheet_bytes(draft_shape(d));
         memset(sheet, 0xA5, sheet_len);
-        worked[work_out(graph, length, sheet, sheet_len) & 0xFF]++;
+        tally_note(&worked, work_out(graph, length, sheet, sheet_len));
     }
-    print_seen("damaged files", cases, worked);
+    tally_print("damaged files", &worked);
 }
 
 /* ---- The sheet against runs ---- */
