@@ -1,8 +1,8 @@
--- The number and the place of each answer, as the table "What comes back" gives them, and both in one number.
+-- The number and the place of each answer, as the table "What comes back" and the change requests give them, and both in one number.
 use Prim.Native.Nat.{ℕ, _+_, _*_}
 use mathlib.Core.Path.{_≡_}
 use Rattle.answer.specs.declared.Answer.{Answer}
-use Rattle.answer.specs.declared.Answer.the-variants.{Pass, TooShort, BadCount, BadLength, BadEntry, BadNode, BadFlow, BadCall, BadCatch, BadOpening, BadSheet, BadBlock, Broken, Overdrawn}
+use Rattle.answer.specs.declared.Answer.the-variants.{Pass, TooShort, BadCount, BadLength, BadEntry, BadNode, BadFlow, BadCall, BadCatch, BadOpening, BadSheet, BadBlock, Broken, Overdrawn, Unfit}
 
 abbrev pub numberOf : Answer → ℕ
 -- pass
@@ -28,6 +28,8 @@ numberOf (BadBlock w) = 11
 numberOf (Broken r) = 12
 -- overdrawn
 numberOf (Overdrawn n) = 13
+-- profile not met
+numberOf (Unfit n) = 14
 
 abbrev pub placeOf : Answer → ℕ
 placeOf Pass = 0
@@ -49,6 +51,8 @@ placeOf (BadBlock w) = w
 placeOf (Broken r) = r
 -- lowest reached node whose draw is not covered
 placeOf (Overdrawn n) = n
+-- lowest node that breaks the profile
+placeOf (Unfit n) = n
 
 -- the answer has this number and this place
 pub record Says (a : Answer) (number place : ℕ) : Type 0 where

@@ -17,6 +17,7 @@ pub enum Answer {
     BadBlock(u16),
     Broken(u16),
     Overdrawn(u16),
+    Unfit(u16),
 }
 
 pub fn number(a: Answer) -> u16
@@ -37,6 +38,7 @@ pub fn number(a: Answer) -> u16
         Answer::BadBlock(_) => 11,
         Answer::Broken(_) => 12,
         Answer::Overdrawn(_) => 13,
+        Answer::Unfit(_) => 14,
     }
 }
 
@@ -58,6 +60,7 @@ pub fn place(a: Answer) -> u32
         Answer::BadBlock(w) => w as u32,
         Answer::Broken(r) => r as u32,
         Answer::Overdrawn(n) => n as u32,
+        Answer::Unfit(n) => n as u32,
     }
 }
 

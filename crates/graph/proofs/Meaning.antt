@@ -12,7 +12,7 @@ use borrow.Author.Tests.{ltb-true, ltb-false, lt-ltb}
 use Rattle.words.specs.Lowest.{lowest}
 use Rattle.words.proofs.Lowest.{is-lowest, none-found}
 use Rattle.answer.specs.declared.Answer.{Answer}
-use Rattle.answer.specs.declared.Answer.the-variants.{Pass, TooShort, BadCount, BadLength, BadEntry, BadNode, BadFlow, BadCall, BadCatch, BadOpening, BadSheet, BadBlock, Broken, Overdrawn}
+use Rattle.answer.specs.declared.Answer.the-variants.{Pass, TooShort, BadCount, BadLength, BadEntry, BadNode, BadFlow, BadCall, BadCatch, BadOpening, BadSheet, BadBlock, Broken, Overdrawn, Unfit}
 use Rattle.answer.specs.Number.{numberOf, placeOf, Says}
 use Rattle.answer.proofs.Settled.{answerOf, found, settled, says-only, says}
 use Rattle.tables.specs.declared.Tables.{Tables}
@@ -42,6 +42,7 @@ module _ (f : List ℕ) where
   about-file (BadBlock w) g = absurd g
   about-file (Broken r) g = absurd g
   about-file (Overdrawn n) g = absurd g
+  about-file (Unfit n) g = absurd g
 
   -- no refusal with a number below c applies
   abbrev NoneTo : ℕ → Type 0

@@ -6,7 +6,7 @@ use mathlib.Core.Logic.{_⊎_}
 use mathlib.Core.List.{List}
 use lib.ListN.{length}
 use Rattle.answer.specs.declared.Answer.{Answer}
-use Rattle.answer.specs.declared.Answer.the-variants.{Pass, TooShort, BadCount, BadLength, BadEntry, BadNode, BadFlow, BadCall, BadCatch, BadOpening, BadSheet, BadBlock, Broken, Overdrawn}
+use Rattle.answer.specs.declared.Answer.the-variants.{Pass, TooShort, BadCount, BadLength, BadEntry, BadNode, BadFlow, BadCall, BadCatch, BadOpening, BadSheet, BadBlock, Broken, Overdrawn, Unfit}
 use Rattle.answer.specs.Number.{numberOf, placeOf, Says}
 use Rattle.tables.specs.declared.Tables.{Tables}
 use Rattle.tables.specs.Trailer.{tablesOf}
@@ -28,6 +28,7 @@ Given f t BadSheet = ⊥
 Given f t (BadBlock w) = ⊥
 Given f t (Broken r) = ⊥
 Given f t (Overdrawn n) = ⊥
+Given f t (Unfit n) = ⊥
 Given f t Pass = ⊥
 
 -- "The first that applies, in this order; within a table the lowest row."

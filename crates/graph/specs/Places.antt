@@ -2,7 +2,7 @@
 use Prim.Native.Nat.{ℕ}
 use mathlib.Core.List.{List}
 use Rattle.answer.specs.declared.Answer.{Answer}
-use Rattle.answer.specs.declared.Answer.the-variants.{BadNode, Overdrawn}
+use Rattle.answer.specs.declared.Answer.the-variants.{BadNode, Overdrawn, Unfit}
 use Rattle.tables.specs.declared.Tables.{Tables}
 
 -- 5: row k of the nodes is refused
@@ -12,3 +12,7 @@ badNodeAt f t k = BadNode k
 -- 13: overdrawn at the node n
 abbrev pub overdrawnAt : List ℕ → Tables → ℕ → Answer
 overdrawnAt f t n = Overdrawn n
+
+-- 14: the node n breaks the profile
+abbrev pub unfitAt : List ℕ → Tables → ℕ → Answer
+unfitAt f t n = Unfit n

@@ -6,7 +6,7 @@ ghost use mathlib.Core.Path.{_≡_};
 ghost use Prim.Native.Nat.{_<_};
 ghost use Rattle.words.specs.Lowest.{lowest};
 ghost use Rattle.layout.specs.Layout.{Within};
-ghost use Rattle.graph.specs.Places.{badNodeAt, overdrawnAt};
+ghost use Rattle.graph.specs.Places.{badNodeAt, overdrawnAt, unfitAt};
 ghost use Rattle.graph.specs.Judge.{refused, judgeRows, judgeIn};
 ghost use Rattle.graph.specs.Scan.{rowsOf, rowBad, badRow};
 ghost use Rattle.graph.specs.Judgement.{shapeFor, judgedOf};
@@ -30,6 +30,12 @@ pub fn overdrawn_at(f: &[u8], t: Tables, n: u16) -> Answer
     ensures { λ r. ⌜ r ≡ overdrawnAt (now (f .entry)) t n ⌝ }
 {
     Answer::Overdrawn(n)
+}
+
+pub fn unfit_at(f: &[u8], t: Tables, n: u16) -> Answer
+    ensures { λ r. ⌜ r ≡ unfitAt (now (f .entry)) t n ⌝ }
+{
+    Answer::Unfit(n)
 }
 
 // The six tables, and the trailer's counts as one more.

@@ -6,6 +6,7 @@ use mathlib.Core.List.{List, [], _∷_, _++_}
 use lib.ListN.{replicate}
 use lib.Dec.{eqb}
 use Rattle.words.specs.Bytes.{byteAt, wordAt}
+use Rattle.words.specs.Least.{leastOf}
 use Rattle.words.specs.Lowest.{lowest}
 use Rattle.effect.specs.Whole.{normalOf, nothingDone, drawOf, grantOf, applyOf, thenOf, bothOf, atMostOf, stockAtMostOf, coversOf}
 use Rattle.effect.specs.Meaning.{with-at, replaced, oneTaken}
@@ -24,7 +25,7 @@ use Rattle.formed.specs.Ill.{someWord, countsFit, illBlock}
 use Rattle.rounds.specs.Rounds.{wholeOf, roundsOf}
 use Rattle.demand.specs.Demand.{marked, asked, unasked, entryDemand, flowDemand, returnDemand, leaveDemand, nodeDemand, calledIn}
 use Rattle.rules.specs.Tests.{effectUnder, stockUnder, met, allFor, targetUnder, startUnder, afterCall, intoCall}
-use Rattle.rules.specs.Broken.{leastOf, thrownBroken, calledBroken, callBroken, nodeBroken, brokenOf}
+use Rattle.rules.specs.Broken.{thrownBroken, calledBroken, callBroken, nodeBroken, brokenOf}
 use Rattle.permit.specs.Check.{uncoveredAt, wholeSheet, judgedSheet, checkOf}
 use Rattle.known.specs.File.{words, nodeRows, pairs, triples, distance, fileBytes}
 use Rattle.known.specs.Table.{aWith, revoked, withoutRight, neverReturns, table}

@@ -9,3 +9,5 @@ pub mod Demands
 pub mod Brought
 pub mod Stocks
 pub mod Example
+pub mod Open
+pub mod OneShot

@@ -25,7 +25,7 @@ use Rattle.tables.specs.Trailer.{tablesOf}
 use Rattle.graph.specs.Places.{overdrawnAt}
 use Rattle.graph.specs.Judge.{judgeOf}
 use Rattle.graph.specs.Judgement.{shapeOf}
-use Rattle.nodes.specs.Program.{programOf}
+use Rattle.nodes.specs.Program.{programOf, Safe}
 use Rattle.nodes.proofs.Setting.{setting}
 use Rattle.layout.specs.declared.Shape.{Shape}
 use Rattle.layout.specs.Layout.{blockCount, blockAt, sheetBytes}
@@ -35,7 +35,7 @@ use Rattle.rules.specs.Sheet.{sheet, WellFormed, Holds, IsReached}
 use Rattle.rules.proofs.Asked.{true-false}
 use Rattle.rules.proofs.Exact.{rules-below, rule-broken, rules-beyond}
 use Rattle.permit.specs.Check.{uncoveredAt, wholeSheet, judgedSheet, checkOf}
-use Rattle.permit.specs.Meaning.{IsCovered, Checks, Safe, refused, wrong-length, ill-formed, broken, overdrawn, accepted}
+use Rattle.permit.specs.Meaning.{IsCovered, Checks, refused, wrong-length, ill-formed, broken, overdrawn, accepted}
 use Rattle.permit.proofs.Draws.{uncovered-says, covered-says}
 
 module _ (f s : List ℕ) where

@@ -10,7 +10,7 @@ use Rattle.answer.specs.declared.Answer.the-variants.{Pass}
 use Rattle.answer.specs.Number.{numberOf, placeOf, Says}
 use Rattle.model.specs.Program.{doings}
 use Rattle.graph.specs.Judge.{judgeOf}
-use Rattle.nodes.specs.Program.{programOf, Overdrawing}
+use Rattle.nodes.specs.Program.{programOf}
 use Rattle.layout.specs.Layout.{blockCount, blockAt, sheetBytes}
 use Rattle.formed.specs.Ill.{illBlock}
 use Rattle.rules.specs.Sheet.{shape, WellFormed, Holds, IsReached, stockIn}
@@ -34,7 +34,3 @@ pub data Checks (f s : List ℕ) (a : Answer) : Type 0 where
   overdrawn : WellFormed f s → ((r : ℕ) → Holds f s r) → (n : ℕ) → IsReached f s n → (IsCovered f s n → ⊥) → ((m : ℕ) → m < n → IsReached f s m → IsCovered f s m) → Says a 13 n → Checks f s a
   -- 0: accepted
   accepted : WellFormed f s → ((r : ℕ) → Holds f s r) → ((n : ℕ) → IsReached f s n → IsCovered f s n) → Says a 0 0 → Checks f s a
-
--- No graph with an accepted sheet, made by anyone, has a run that overdraws.
-abbrev pub Safe : List ℕ → Answer → Type 0
-Safe f a = numberOf a ≡ 0 → (n : ℕ) → Overdrawing f n → ⊥

@@ -7,9 +7,10 @@ ghost use Prim.Native.Nat.{_<_};
 ghost use Rattle.words.specs.Lowest.{lowest};
 ghost use Rattle.answer.specs.declared.Answer.the-variants.{Pass};
 ghost use Rattle.graph.specs.Judge.{judgeIn};
+ghost use Rattle.nodes.specs.Program.{Safe};
 ghost use Rattle.layout.specs.Layout.{Within};
 ghost use Rattle.permit.specs.Check.{uncoveredAt, verdictOf, judgedSheet, wholeSheet, checkOf};
-ghost use Rattle.permit.specs.Meaning.{Checks, Safe};
+ghost use Rattle.permit.specs.Meaning.{Checks};
 
 // Node n is a draw, the sheet calls it reached, and its stock there does not cover it. Judged before the node's own step.
 fn uncovered(f: &[u8], t: Tables, x: Shape, s: &[u8], n: usize) -> bool

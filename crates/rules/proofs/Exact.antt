@@ -9,6 +9,8 @@ use native.Mathlib.Omega.{arith}
 use native.Mathlib.Numerals.{one-add}
 use lib.Dec.{eqb}
 use borrow.Author.Tests.{eq-eqb, ne-eqb}
+use Rattle.words.specs.Least.{leastOf}
+use Rattle.words.proofs.Least.{least-under, least-hit}
 use Rattle.answer.specs.declared.Answer.the-variants.{Pass}
 use Rattle.effect.specs.declared.Effect.{Effect}
 use Rattle.effect.specs.Whole.{thenOf, applyOf}
@@ -40,9 +42,8 @@ use Rattle.demand.specs.Demand.{marked, entryDemand, flowDemand, catchDemand, n
 use Rattle.rules.specs.declared.Source.{Source}
 use Rattle.rules.specs.declared.Source.the-variants.{Start, Entries, Flow, Catches, Nodes, Calls}
 use Rattle.rules.specs.Tests.{effectUnder, met, startUnder, afterCall, intoCall, caughtUnder}
-use Rattle.rules.specs.Broken.{brokenIf, leastOf, leavingBroken, thrownBroken, calledBroken, callBroken, nodeBroken, countOf, brokenAt, brokenIn, brokenOf}
+use Rattle.rules.specs.Broken.{brokenIf, leavingBroken, thrownBroken, calledBroken, callBroken, nodeBroken, countOf, brokenAt, brokenIn, brokenOf}
 use Rattle.rules.specs.Sheet.{sheetIn, Holds}
-use Rattle.rules.proofs.Least.{least-under, least-hit}
 use Rattle.rules.proofs.Blocks.{mark-true, true-mark, exit-under, method-under}
 use Rattle.rules.proofs.Asked.{holds-above, fails-at, true-false}
 use Rattle.rules.proofs.Row.{NodeAsks, entry-row, flow-row, catch-row, node-row, after-row, into-row, caught-row}
@@ -167,7 +168,7 @@ module _ (f : List ℕ) (pass : judgeOf f ≡ Pass) (s : List ℕ) (whole : firs
     row = callBroken f t (shapeOf t) s k
 
     abbrev thrown : ℕ
-    thrown = leastOf (thrownBroken f t (shapeOf t) s C) 8
+    thrown = leastOf 11 (thrownBroken f t (shapeOf t) s C) 8
 
     abbrev marked-row : ℕ
     marked-row = after-mark (afterCall f t (shapeOf t) s C) (intoCall f t (shapeOf t) s C) thrown
@@ -212,7 +213,7 @@ module _ (f : List ℕ) (pass : judgeOf f ≡ Pass) (s : List ℕ) (whole : firs
   -- Every rule below the lowest broken one holds.
   module _ (q : ℕ) (low : q < brokenOf f t (shapeOf t) s) where
     ok : (source : Source) (k : ℕ) → k < countOf t source → q < brokenAt f t (shapeOf t) s source k
-    ok source k l = omega (arith, below source, least-under (brokenAt f t (shapeOf t) s source) (countOf t source) k l)
+    ok source k l = omega (arith, below source, least-under 11 (brokenAt f t (shapeOf t) s source) (countOf t source) k l)
 
     node-ok : (n : ℕ) → n < t .nodes → cond (eqb (nodeKind f t n) returnKind) 5 6 ≤ q → NodeAsks f pass s whole n
     unfolding nodeBroken
@@ -227,7 +228,7 @@ module _ (f : List ℕ) (pass : judgeOf f ≡ Pass) (s : List ℕ) (whole : firs
     thrown-ok k l y h e x =
         let p = call-ok k l y in
         let r = eight-holds (afterCall f t (shapeOf t) s (C k l)) (intoCall f t (shapeOf t) s (C k l)) (thrown k l) (omega arith) .1 in
-        omega (arith, thrown-row k l e x, least-under (thrownBroken f t (shapeOf t) s (C k l)) 8 e (omega (arith, x .1)))
+        omega (arith, thrown-row k l e x, least-under 11 (thrownBroken f t (shapeOf t) s (C k l)) 8 e (omega (arith, x .1)))
 
     good : Asks q
     unfolding startUnder
@@ -324,7 +325,7 @@ module _ (f : List ℕ) (pass : judgeOf f ≡ Pass) (s : List ℕ) (whole : firs
     where
       thrown-wrong : thrown k l ≡ q → ⊥
       thrown-wrong e =
-          let w = least-hit (thrownBroken f t (shapeOf t) s (C k l)) 8 (omega arith) in
+          let w = least-hit 11 (thrownBroken f t (shapeOf t) s (C k l)) 8 (omega arith) in
           exit (w .0) (w .1) (w .2 ∙ e) (marked s (exitAt (shapeOf t) (C k l .method) (1 + w .0))) refl
         where
           exit : (e : ℕ) → e < 8 → thrownBroken f t (shapeOf t) s (C k l) e ≡ q → (b : Bool) → marked s (exitAt (shapeOf t) (C k l .method) (1 + e)) ≡ b → ⊥
@@ -389,7 +390,7 @@ module _ (f : List ℕ) (pass : judgeOf f ≡ Pass) (s : List ℕ) (whole : firs
   bad : brokenOf f t (shapeOf t) s < 11 → Asks (brokenOf f t (shapeOf t) s) → ⊥
   bad low d =
       let w = which in
-      let h = least-hit (brokenAt f t (shapeOf t) s (w .0)) (countOf t (w .0)) (omega (arith, w .1)) in
+      let h = least-hit 11 (brokenAt f t (shapeOf t) s (w .0)) (countOf t (w .0)) (omega (arith, w .1)) in
       wrong (w .0) (h .0) (h .1) (brokenOf f t (shapeOf t) s) (h .2 ∙ w .1) low d
 
   -- so of the rules themselves

@@ -1,5 +1,4 @@
 pub mod Rows
-pub mod Least
 pub mod Blocks
 pub mod Asked
 pub mod Row

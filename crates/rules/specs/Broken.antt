@@ -1,8 +1,9 @@
 -- The lowest rule that is broken: at one row, in a table, anywhere; 11 where none is.
-use Prim.Native.Nat.{ℕ, zero, suc, _+_, min}
+use Prim.Native.Nat.{ℕ, _+_, min}
 use mathlib.Core.Bool.{Bool, true, false, cond}
 use mathlib.Core.List.{List}
 use lib.Dec.{eqb}
+use Rattle.words.specs.Least.{leastOf}
 use Rattle.effect.specs.declared.Effect.{Effect}
 use Rattle.tables.specs.declared.Tables.{Tables}
 use Rattle.tables.specs.Kinds.{returnKind}
@@ -21,11 +22,6 @@ abbrev pub brokenIf : Bool → ℕ → ℕ
 brokenIf true r = 11
 brokenIf false r = r
 
--- the least of 11 and the numbers p gives below n
-unfoldable pub leastOf : (ℕ → ℕ) → ℕ → ℕ
-leastOf p zero = 11
-leastOf p (suc n) = min (leastOf p n) (p n)
-
 -- 9 and 10, of a marked call n that the exception e comes to with y: its catch rows, or the caller's exit
 unfoldable pub leavingBroken : List ℕ → Tables → Shape → List ℕ → ℕ → ℕ → Effect → ℕ
 leavingBroken f t x s n e y =
@@ -38,7 +34,7 @@ thrownBroken f t x s c e = cond (marked s (exitAt x (c .method) (1 + e))) (leavi
 unfoldable pub calledBroken : List ℕ → Tables → Shape → List ℕ → Called → ℕ
 calledBroken f t x s c =
     cond (c .marked)
-    (cond (afterCall f t x s c) (cond (intoCall f t x s c) (leastOf (thrownBroken f t x s c) 8) 8) 7)
+    (cond (afterCall f t x s c) (cond (intoCall f t x s c) (leastOf 11 (thrownBroken f t x s c) 8) 8) 7)
     11
 
 unfoldable pub callBroken : List ℕ → Tables → Shape → List ℕ → ℕ → ℕ
@@ -67,7 +63,7 @@ brokenAt f t x s Nodes k = nodeBroken f t x s k
 brokenAt f t x s Calls k = callBroken f t x s k
 
 abbrev pub brokenIn : List ℕ → Tables → Shape → List ℕ → Source → ℕ
-brokenIn f t x s source = leastOf (brokenAt f t x s source) (countOf t source)
+brokenIn f t x s source = leastOf 11 (brokenAt f t x s source) (countOf t source)
 
 -- the lowest rule that the sheet breaks
 unfoldable pub brokenOf : List ℕ → Tables → Shape → List ℕ → ℕ

@@ -8,11 +8,12 @@ use rows::Sorted;
 use tables::Tables;
 ghost use mathlib.Core.Path.{_≡_};
 ghost use Prim.Native.Nat.{_-_, _<_, min};
+ghost use Rattle.words.specs.Least.{leastOf};
 ghost use Rattle.answer.specs.declared.Answer.the-variants.{Pass};
 ghost use Rattle.graph.specs.Judge.{judgeIn};
 ghost use Rattle.layout.specs.Layout.{Within};
 ghost use Rattle.rules.specs.Tests.{effectUnder, stockUnder, met, targetOf, targetUnder, allFor, startUnder, afterCall, intoCall, caughtUnder};
-ghost use Rattle.rules.specs.Broken.{brokenIf, leavingBroken, thrownBroken, leastOf, callBroken, nodeBroken, countOf, brokenAt, brokenOf};
+ghost use Rattle.rules.specs.Broken.{brokenIf, leavingBroken, thrownBroken, callBroken, nodeBroken, countOf, brokenAt, brokenOf};
 
 // The block at w has mark 1 and its effect is at most e.
 fn effect_under(s: &[u8], x: Shape, w: usize, e: Effect) -> bool
@@ -164,21 +165,15 @@ fn thrown(f: &[u8], t: Tables, x: Shape, s: &[u8], c: Called, e: usize) -> usize
     11
 }
 
-fn smaller(a: usize, b: usize) -> usize
-    ensures { λ r. ⌜ r ≡ min a b ⌝ }
-{
-    if a < b { a } else { b }
-}
-
 // Rules 9 and 10, of a marked call.
 fn all_thrown(f: &[u8], t: Tables, x: Shape, s: &[u8], c: Called) -> usize
     requires { ⌜ (judgeIn (now f) t ≡ Pass) × Within x ⌝ }
-    ensures { λ r. ⌜ r ≡ leastOf (thrownBroken (now (f .entry)) t x (now (s .entry)) c) 8 ⌝ }
+    ensures { λ r. ⌜ r ≡ leastOf 11 (thrownBroken (now (f .entry)) t x (now (s .entry)) c) 8 ⌝ }
 {
     let mut least = 11;
     let mut e = 0;
     while e < 8 {
-        least = smaller(least, thrown(f, t, x, s, c, e));
+        least = words::smaller(least, thrown(f, t, x, s, c, e));
         e += 1;
     }
     least
@@ -262,13 +257,13 @@ fn broken_at(f: &[u8], t: Tables, x: Shape, s: &[u8], source: Source, k: usize) 
 // The lowest rule that a row of the source breaks.
 fn broken_in(f: &[u8], t: Tables, x: Shape, s: &[u8], source: Source) -> usize
     requires { ⌜ (judgeIn (now f) t ≡ Pass) × Within x ⌝ }
-    ensures { λ r. ⌜ r ≡ leastOf (brokenAt (now (f .entry)) t x (now (s .entry)) source) (countOf t source) ⌝ }
+    ensures { λ r. ⌜ r ≡ leastOf 11 (brokenAt (now (f .entry)) t x (now (s .entry)) source) (countOf t source) ⌝ }
 {
     let n = count(t, source);
     let mut least = 11;
     let mut k = 0;
     while k < n {
-        least = smaller(least, broken_at(f, t, x, s, source, k));
+        least = words::smaller(least, broken_at(f, t, x, s, source, k));
         k += 1;
     }
     least
@@ -285,11 +280,11 @@ pub fn broken(f: &[u8], t: Tables, x: Shape, s: &[u8]) -> usize
     let catches = broken_in(f, t, x, s, Source::Catches);
     let nodes = broken_in(f, t, x, s, Source::Nodes);
     let calls = broken_in(f, t, x, s, Source::Calls);
-    smaller(
+    words::smaller(
         start,
-        smaller(
+        words::smaller(
             entries,
-            smaller(flow, smaller(catches, smaller(nodes, calls))),
+            words::smaller(flow, words::smaller(catches, words::smaller(nodes, calls))),
         ),
     )
 }

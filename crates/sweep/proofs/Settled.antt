@@ -4,6 +4,7 @@ use mathlib.Core.Path.{_≡_, refl, subst}
 use mathlib.Core.Bool.{Bool, true, false, cond, _&&_, false≢true}
 use mathlib.Core.List.{List}
 use native.Mathlib.Omega.{arith}
+use Rattle.words.specs.Least.{leastOf}
 use Rattle.effect.specs.declared.Effect.{Effect}
 use Rattle.tables.specs.declared.Tables.{Tables}
 use Rattle.rows.specs.Rows.{uncaughtOf}
@@ -14,7 +15,7 @@ use Rattle.demand.specs.Demand.{marked, calledIn, thrownIn}
 use Rattle.rules.specs.declared.Source.{Source}
 use Rattle.rules.specs.declared.Source.the-variants.{Start, Entries, Flow, Catches, Nodes, Calls}
 use Rattle.rules.specs.Tests.{afterCall, intoCall}
-use Rattle.rules.specs.Broken.{brokenIf, leastOf, leavingBroken, thrownBroken, calledBroken, callBroken, nodeBroken, countOf, brokenAt, brokenIn, brokenOf}
+use Rattle.rules.specs.Broken.{brokenIf, leavingBroken, thrownBroken, calledBroken, callBroken, nodeBroken, countOf, brokenAt, brokenIn, brokenOf}
 use Rattle.rules.proofs.Rows.{all-at}
 use Rattle.sweep.specs.Turn.{turned}
 use Rattle.sweep.specs.Sweep.{sourceAt, leavingHolds, thrownHolds, calledHolds, rowHolds, tableHolds, sweepHolds}
@@ -33,7 +34,7 @@ after-unbroken : (r : ℕ) (b : Bool) {u : Bool} {i : ℕ} → (u ≡ true → i
 after-unbroken r true p h = p h
 after-unbroken r false p h = absurd (false≢true h)
 
-all-unbroken : (p : ℕ → ℕ) (n : ℕ) → ((k : ℕ) → k < n → p k ≡ 11) → leastOf p n ≡ 11
+all-unbroken : (p : ℕ → ℕ) (n : ℕ) → ((k : ℕ) → k < n → p k ≡ 11) → leastOf 11 p n ≡ 11
 unfolding leastOf
 all-unbroken p zero h = refl
 all-unbroken p (suc n) h = λ i. min (all-unbroken p n (λ k l. h k (omega arith)) i) (h n (omega arith) i)

@@ -1,3 +1,4 @@
 pub mod Read
 pub mod Lowest
 pub mod Tests
+pub mod Least

@@ -1,6 +1,7 @@
-// Bytes and little-endian words of a lent slice. What lies past the end reads as 0, so no caller has an index to show.
+// Bytes and little-endian words of a lent slice. What lies past the end reads as 0, so no caller has an index to show. And the
+// smaller of two numbers.
 ghost use mathlib.Core.Path.{_≡_};
-ghost use Prim.Native.Nat.{_+_, _<_, _≤_};
+ghost use Prim.Native.Nat.{_+_, _<_, _≤_, min};
 ghost use lib.ListN.{length};
 ghost use Rattle.words.specs.Bytes.{byteAt, wordAt};
 
@@ -28,4 +29,11 @@ pub fn inner_word(s: &[u8], at: usize) -> usize
     ensures { λ r. ⌜ (r ≡ wordAt (now (s .entry)) at) × (r < 65536) ⌝ }
 {
     s[at] as usize + 256 * (s[at + 1] as usize)
+}
+
+// The smaller of two numbers.
+pub fn smaller(a: usize, b: usize) -> usize
+    ensures { λ r. ⌜ r ≡ min a b ⌝ }
+{
+    if a < b { a } else { b }
 }

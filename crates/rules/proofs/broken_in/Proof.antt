@@ -4,13 +4,14 @@ use mathlib.Core.Path.{_≡_, refl, ap, _∙_}
 use native.Mathlib.Omega.{arith}
 use denote.Ref.{now}
 use borrow.Author.Needs.{needs}
-use Rattle.rules.specs.Broken.{brokenAt, leastOf}
-use Rattle.rules.proofs.Least.{least-more}
+use Rattle.words.specs.Least.{leastOf}
+use Rattle.words.proofs.Least.{least-more}
+use Rattle.rules.specs.Broken.{brokenAt}
 use Rattle.rules.proofs.broken_in.Statement.{statement}
 use Rattle.rules.proofs.broken_in.Tie as tie
 
 abbrev Inv-loop : tie.InvT-loop
-Inv-loop f t x s source n least₀ k₀ least k = (k ≤ n) × (least ≡ leastOf (brokenAt f t x s source) k)
+Inv-loop f t x s source n least₀ k₀ least k = (k ≤ n) × (least ≡ leastOf 11 (brokenAt f t x s source) k)
 
 abbrev μ-loop : tie.MeasureT-loop
 μ-loop f t x s source n least₀ k₀ least k = n - k
@@ -23,14 +24,14 @@ loop-again : tie.Need-loop-again Inv-loop μ-loop
 loop-again c =
     let l = c .before .before .before in
     let a = l .before .before .before .before .args in
-    (omega arith, least-more (brokenAt (now (a .f)) (a .t) (a .x) (now (a .s)) (a .source)) (l .loop .k) (l .loop .inv .1) (c .before .broken-at .ensures) (c .smaller .ensures))
+    (omega arith, least-more 11 (brokenAt (now (a .f)) (a .t) (a .x) (now (a .s)) (a .source)) (l .loop .k) (l .loop .inv .1) (c .before .broken-at .ensures) (c .smaller .ensures))
 
 returns : tie.Need-returns Inv-loop μ-loop
 returns c =
     let l = c .before in
     let a = l .before .before .before .before .args in
     let q : l .loop .k ≡ l .before .count .result = omega (arith, l .loop .inv .0) in
-    l .loop .inv .1 ∙ ap (leastOf (brokenAt (now (a .f)) (a .t) (a .x) (now (a .s)) (a .source))) (q ∙ l .before .count .ensures .0)
+    l .loop .inv .1 ∙ ap (leastOf 11 (brokenAt (now (a .f)) (a .t) (a .x) (now (a .s)) (a .source))) (q ∙ l .before .count .ensures .0)
 
 pub broken-in-spec : {M : Type 1} → statement M
 broken-in-spec =
