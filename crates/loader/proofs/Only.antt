@@ -3,9 +3,10 @@ use Prim.Native.Nat.{ℕ}
 use mathlib.Core.Path.{_≡_, sym, ap, _∙_}
 use mathlib.Core.List.{List}
 use Rattle.answer.specs.Number.{packedOf}
+use Rattle.profile.proofs.Breaks as profile
 use Rattle.permit.proofs.Meaning as check
 use Rattle.work.proofs.Only as work
-use Rattle.loader.specs.Reply.{WorkedOut, Checked}
+use Rattle.loader.specs.Reply.{WorkedOut, Checked, OneShot, Session}
 
 pub one-reply : {f s r q : List ℕ} {n m : ℕ} → WorkedOut f s r n → WorkedOut f s q m → (n ≡ m) × (r ≡ q)
 one-reply {f} {s} {r} {q} a b =
@@ -14,3 +15,9 @@ one-reply {f} {s} {r} {q} a b =
 
 pub one-answer : {f s : List ℕ} {n m : ℕ} → Checked f s n → Checked f s m → n ≡ m
 one-answer {f} {s} a b = a .packed ∙ ap packedOf (check.only f s (a .checks) ∙ sym (check.only f s (b .checks))) ∙ sym (b .packed)
+
+pub one-one-shot : {f : List ℕ} {n m : ℕ} → OneShot f n → OneShot f m → n ≡ m
+one-one-shot {f} a b = a .packed ∙ ap packedOf (profile.only f (a .means) (b .means)) ∙ sym (b .packed)
+
+pub one-session : {f : List ℕ} {n m : ℕ} → Session f n → Session f m → n ≡ m
+one-session {f} a b = a .packed ∙ ap packedOf (profile.only f (a .means) (b .means)) ∙ sym (b .packed)

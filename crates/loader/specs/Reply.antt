@@ -4,7 +4,9 @@ use mathlib.Core.Path.{_≡_}
 use mathlib.Core.List.{List}
 use Rattle.answer.specs.declared.Answer.{Answer}
 use Rattle.answer.specs.Number.{packedOf}
-use Rattle.permit.specs.Meaning.{Checks, Safe}
+use Rattle.nodes.specs.Program.{Safe}
+use Rattle.profile.specs.Profile.{Profiled, BreaksOneShot, BreaksSession}
+use Rattle.permit.specs.Meaning.{Checks}
 use Rattle.work.specs.Meaning.{WorksOut}
 
 -- of work out: s is the lent sheet before and r after
@@ -18,4 +20,17 @@ pub record Checked (f s : List ℕ) (n : ℕ) : Type 0 where
   pub answer : Answer
   pub checks : Checks f s answer
   pub safe : Safe f answer
+  pub packed : n ≡ packedOf answer
+
+-- of one-shot; the number 0 is given for no graph that has a run that overdraws
+pub record OneShot (f : List ℕ) (n : ℕ) : Type 0 where
+  pub answer : Answer
+  pub means : Profiled f (BreaksOneShot f) answer
+  pub safe : Safe f answer
+  pub packed : n ≡ packedOf answer
+
+-- of session
+pub record Session (f : List ℕ) (n : ℕ) : Type 0 where
+  pub answer : Answer
+  pub means : Profiled f (BreaksSession f) answer
   pub packed : n ≡ packedOf answer

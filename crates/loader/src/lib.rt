@@ -2,7 +2,7 @@
 ghost use mathlib.Core.Path.{_≡_};
 ghost use Rattle.answer.specs.Number.{packedOf};
 ghost use Rattle.permit.specs.Check.{checkOf};
-ghost use Rattle.loader.specs.Reply.{Checked, WorkedOut};
+ghost use Rattle.loader.specs.Reply.{Checked, WorkedOut, OneShot, Session};
 
 // Work out: the graph file is only read, the sheet is written after the verdicts 0 and 13.
 #[no_mangle]
@@ -19,4 +19,20 @@ pub extern "C" fn snellair_check(f: &[u8], s: &[u8]) -> u64
     ensures means { λ r. ⌜ Checked (now (f .entry)) (now (s .entry)) r ⌝ }
 {
     answer::packed(permit::check(f, s))
+}
+
+// One-shot: the profile of add-ons that ask right before each use.
+#[no_mangle]
+pub extern "C" fn snellair_one_shot(f: &[u8]) -> u64
+    ensures { λ r. ⌜ OneShot (now (f .entry)) r ⌝ }
+{
+    answer::packed(profile::one_shot(f))
+}
+
+// Session: the profile of add-ons that ask at start-up.
+#[no_mangle]
+pub extern "C" fn snellair_session(f: &[u8]) -> u64
+    ensures { λ r. ⌜ Session (now (f .entry)) r ⌝ }
+{
+    answer::packed(profile::session(f))
 }

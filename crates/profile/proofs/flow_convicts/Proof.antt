@@ -1,0 +1,22 @@
+use borrow.Author.Needs.{needs}
+use Rattle.profile.proofs.flow_convicts.Statement.{statement}
+use Rattle.profile.proofs.flow_convicts.Tie as tie
+
+returns : tie.Need-returns
+returns c =
+    simp (
+      c .before .is-draw .ensures,
+      c .asks .ensures,
+      c .before .before .before .flow-from .ensures .0,
+      c .before .before .flow-to .ensures .0,
+    )
+
+pub flow-convicts-spec : {M : Type 1} → statement M
+flow-convicts-spec =
+    tie.close
+    (tie.spec
+    (λ c κs. search needs)
+    (λ c κs. search needs)
+    (λ c κs. search needs)
+    (λ c κs. search needs)
+    returns)

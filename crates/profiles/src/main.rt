@@ -1,0 +1,48 @@
+// Reads one graph file on standard input and prints a line for each profile: its name, and whether the graph fits it.
+use answer::Answer;
+use libc::STDIN_FILENO;
+use libc::STDOUT_FILENO;
+
+fn print(text: &[u8]) {
+    io::write_all(STDOUT_FILENO, text);
+}
+
+fn print_number(n: u64) {
+    io::print_decimal(STDOUT_FILENO, n);
+}
+
+// `fits`, `unfit` and the node, or `refused`, the number and the place.
+fn print_answer(a: Answer) {
+    let number = answer::number(a);
+    if number == 0 {
+        print(b"fits\n");
+        return;
+    }
+    if number == 14 {
+        print(b"unfit ");
+    } else {
+        print(b"refused ");
+        print_number(number as u64);
+        print(b" ");
+    }
+    print_number(answer::place(a) as u64);
+    print(b"\n");
+}
+
+fn print_profiles(one_shot: Answer, session: Answer) {
+    print(b"one-shot ");
+    print_answer(one_shot);
+    print(b"session ");
+    print_answer(session);
+}
+
+// One byte more than the longest file is read, and refused without a look at the rest.
+fn main() {
+    let mut file = [0u8; 12455];
+    let n = io::read_full(STDIN_FILENO, &mut file);
+    if n > 12454 {
+        print_profiles(Answer::BadLength, Answer::BadLength);
+        return;
+    }
+    print_profiles(profile::one_shot(&file[..n]), profile::session(&file[..n]));
+}
