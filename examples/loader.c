@@ -1,18 +1,19 @@
 /* A small loader: takes an add-on's graph file and the sheet that came with
  * it, checks the one against the other, and says in words why it refuses.
- * With one argument it works the sheet out itself. */
+ * With one argument it works the sheet out itself. With --one-shot or
+ * --session it asks whether the graph fits that profile. */
 #include "snellair.h"
 
 #include <stdio.h>
 #include <stdlib.h>
+#include <string.h>
 
-/* What an answer says, and what its place counts; NULL where there is none. */
+/* What a refusal says, and what its place counts; NULL where there is none. */
 struct meaning {
     const char *says, *place;
 };
 
 static const struct meaning answers[] = {
-    [SNELLAIR_PASS] = {"no run of this add-on lacks a permit", NULL},
     [SNELLAIR_TOO_SHORT] = {"the graph file has fewer than 14 bytes", NULL},
     [SNELLAIR_BAD_COUNT] = {"a count of the trailer is out of its limits",
                             "count"},
@@ -28,7 +29,10 @@ static const struct meaning answers[] = {
     [SNELLAIR_BAD_BLOCK] = {"a block of the sheet is ill formed", "word"},
     [SNELLAIR_BROKEN_RULE] = {"the sheet breaks a rule", "rule"},
     [SNELLAIR_OVERDRAWN] = {"a draw can lack its permit", "node"},
+    [SNELLAIR_UNFIT] = {"the add-on asks in another way", "node"},
 };
+
+static const char suffices[] = "no run of this add-on lacks a permit";
 
 /* Room for one byte too many, so that a longer file is seen to be longer. */
 static uint8_t graph[SNELLAIR_LONGEST_GRAPH + 1];
@@ -74,27 +78,53 @@ static struct meaning meaning_of(unsigned number)
     return answers[number];
 }
 
-static int report(uint64_t answer)
+/* Says the answer in words, where `pass` is what 0 says, and gives the exit
+ * status. */
+static int report(uint64_t answer, const char *pass)
 {
     unsigned number = SNELLAIR_NUMBER(answer);
     struct meaning meaning = meaning_of(number);
-    printf("%u: %s", number, meaning.says);
+    printf("%u: %s", number, number == SNELLAIR_PASS ? pass : meaning.says);
     if (meaning.place != NULL)
         printf(" (%s %lu)", meaning.place, SNELLAIR_PLACE(answer));
     printf("\n");
-    return number == SNELLAIR_PASS ? 0 : number == SNELLAIR_OVERDRAWN ? 1 : 2;
+    if (number == SNELLAIR_PASS)
+        return 0;
+    return number == SNELLAIR_OVERDRAWN || number == SNELLAIR_UNFIT ? 1 : 2;
+}
+
+/* Whether the argument is the option, which a graph file then follows. */
+static int is_option(int argc, char **argv, const char *option)
+{
+    return argc == 3 && strcmp(argv[1], option) == 0;
+}
+
+static int fit(uint64_t (*profile)(const uint8_t *, size_t), const char *path,
+               const char *pass)
+{
+    size_t length = read_file(path, graph, sizeof graph);
+    return report(profile(graph, length), pass);
 }
 
 int main(int argc, char **argv)
 {
     if (argc != 2 && argc != 3) {
-        fprintf(stderr, "usage: loader GRAPH [SHEET]\n");
+        fprintf(stderr, "usage: loader GRAPH [SHEET]\n"
+                        "       loader --one-shot GRAPH\n"
+                        "       loader --session GRAPH\n");
         return 64;
     }
+    if (is_option(argc, argv, "--one-shot"))
+        return fit(snellair_one_shot, argv[2],
+                   "every permit is asked for right before its use");
+    if (is_option(argc, argv, "--session"))
+        return fit(snellair_session, argv[2],
+                   "every permit is asked for at start-up, for good");
     size_t graph_length = read_file(argv[1], graph, sizeof graph);
     if (argc == 2)
         return report(snellair_work_out(graph, graph_length, sheet,
-                                        sheet_length(graph_length)));
+                                        sheet_length(graph_length)),
+                      suffices);
     size_t length = read_file(argv[2], sheet, sizeof sheet);
-    return report(snellair_check(graph, graph_length, sheet, length));
+    return report(snellair_check(graph, graph_length, sheet, length), suffices);
 }

@@ -1,8 +1,9 @@
 /* Snellair: whether an add-on's permission graph ever runs out of permits.
  *
- * Two operations over bytes that the caller lends: whatever the bytes are, and
- * however many, there is an answer. Neither allocates or keeps anything. Link
- * target/staticlib/libloader.a; docs/FORMAT.md has the layout of both files.
+ * Operations over bytes that the caller lends: whatever the bytes are, and
+ * however many, there is an answer. None allocates or keeps anything. Link
+ * target/staticlib/libloader.a; docs/FORMAT.md has the layout of graph and
+ * sheet.
  *
  * All that is asked of the caller: behind a pointer there are as many bytes as
  * the length after it says, and the sheet that work out writes does not overlap
@@ -30,6 +31,22 @@ uint64_t snellair_work_out(const uint8_t *graph, size_t graph_len,
 uint64_t snellair_check(const uint8_t *graph, size_t graph_len,
                         const uint8_t *sheet, size_t sheet_len);
 
+/* Whether a graph, which is only read, fits a profile: how its add-on asks for
+ * permits. SNELLAIR_PASS says that it does, SNELLAIR_UNFIT names the lowest
+ * node that breaks it.
+ *
+ * One-shot, for add-ons that ask right before each use: every flow row into a
+ * draw leaves a grant of the same type whose rights contain the draw's and
+ * whose count is exactly 1, and no draw is an entry node or the target of a
+ * catch row. A graph that fits has no run that overdraws, so
+ * snellair_work_out passes it. */
+uint64_t snellair_one_shot(const uint8_t *graph, size_t graph_len);
+
+/* Session, for add-ons that ask at start-up: every grant stands in method 0
+ * with count 255, and no call row names method 0. That a graph fits says
+ * nothing of whether its permits suffice. */
+uint64_t snellair_session(const uint8_t *graph, size_t graph_len);
+
 /* The parts of an answer. Type and line are 0 in this release. */
 #define SNELLAIR_NUMBER(answer) ((unsigned)((answer) & 0xFFu))
 #define SNELLAIR_TYPE(answer) ((unsigned)((answer) >> 8 & 0xFFu))
@@ -37,7 +54,7 @@ uint64_t snellair_check(const uint8_t *graph, size_t graph_len,
 #define SNELLAIR_LINE(answer) ((unsigned long)((answer) >> 40 & 0xFFFFFFu))
 
 /* The numbers, and what the place tells. 0 and 13 are verdicts, the others
- * refusals; 11 and 12 come from check only. */
+ * refusals; 11 and 12 come from check only, 14 from the profiles only. */
 enum snellair_number {
     SNELLAIR_PASS = 0,         /* 0 */
     SNELLAIR_TOO_SHORT = 1,    /* 0: fewer than 14 bytes */
@@ -52,7 +69,8 @@ enum snellair_number {
     SNELLAIR_BAD_SHEET = 10,   /* 0: the sheet's length */
     SNELLAIR_BAD_BLOCK = 11,   /* first word of the lowest ill-formed block */
     SNELLAIR_BROKEN_RULE = 12, /* lowest sheet rule that is broken, 1 to 10 */
-    SNELLAIR_OVERDRAWN = 13    /* lowest reached node not covered */
+    SNELLAIR_OVERDRAWN = 13,   /* lowest reached node not covered */
+    SNELLAIR_UNFIT = 14        /* lowest node that breaks the profile */
 };
 
 /* The limits: most methods, nodes and types; the longest graph file and the

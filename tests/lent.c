@@ -1,8 +1,9 @@
 /* Lends the C face memory with nothing around it. Each graph file named as an
- * argument is worked out, and what comes out is checked, at the start and at
- * the end of pages between two that can't be touched; what is only read can't
- * be written. A byte read or written beside those lent, or through a pointer
- * that comes with length 0, ends the program by a signal. */
+ * argument is judged by both profiles and worked out, and what comes out is
+ * checked, at the start and at the end of pages between two that can't be
+ * touched; what is only read can't be written. A byte read or written beside
+ * those lent, or through a pointer that comes with length 0, ends the program
+ * by a signal. */
 #define _DEFAULT_SOURCE
 #include "snellair.h"
 
@@ -67,6 +68,17 @@ static void expect(int holds, const char *name, const char *what)
     exit(1);
 }
 
+/* What a profile answers, and what work out answers with no sheet. */
+static void expect_profiled(uint64_t answer, uint64_t refused, const char *name)
+{
+    if (SNELLAIR_NUMBER(refused) == SNELLAIR_BAD_SHEET)
+        expect(answer == SNELLAIR_PASS ||
+                   SNELLAIR_NUMBER(answer) == SNELLAIR_UNFIT,
+               name, "a profile that neither fits nor is broken");
+    else
+        expect(answer == refused, name, "a profile does not refuse the graph");
+}
+
 /* A graph where it can only be read: first with no sheet, then with its own. */
 static void try_graph(const char *name, const uint8_t *graph, size_t length,
                       struct area area, int at_end)
@@ -74,6 +86,8 @@ static void try_graph(const char *name, const uint8_t *graph, size_t length,
     uint64_t refused = snellair_work_out(graph, length, NULL, 0);
     expect(snellair_check(graph, length, NULL, 0) == refused, name,
            "no sheet, and the two answer otherwise");
+    expect_profiled(snellair_one_shot(graph, length), refused, name);
+    expect_profiled(snellair_session(graph, length), refused, name);
     if (SNELLAIR_NUMBER(refused) != SNELLAIR_BAD_SHEET) {
         expect(SNELLAIR_NUMBER(refused) < SNELLAIR_BAD_SHEET &&
                    refused != SNELLAIR_PASS,
@@ -121,7 +135,9 @@ int main(int argc, char **argv)
     expect(snellair_work_out(NULL, 0, NULL, 0) == SNELLAIR_TOO_SHORT &&
                snellair_check(NULL, 0, NULL, 0) == SNELLAIR_TOO_SHORT &&
                snellair_check(graphs.start, 0, graphs.start, 0) ==
-                   SNELLAIR_TOO_SHORT,
+                   SNELLAIR_TOO_SHORT &&
+               snellair_one_shot(NULL, 0) == SNELLAIR_TOO_SHORT &&
+               snellair_session(NULL, 0) == SNELLAIR_TOO_SHORT,
            "nothing", "not answered 1");
     printf("lent: %d graphs, and no byte beside them touched\n", argc - 1);
     return 0;
