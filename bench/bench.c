@@ -11,7 +11,18 @@
 #include <string.h>
 #include <time.h>
 
-enum { SNELLAIR, SWEEPING, WORKLIST, SNELLAIR_CHECK, PEER_CHECK, MEASURED };
+enum operation {
+    SNELLAIR,
+    SWEEPING,
+    WORKLIST,
+    SNELLAIR_CHECK,
+    PEER_CHECK,
+    SNELLAIR_ONE_SHOT,
+    PEER_ONE_SHOT,
+    SNELLAIR_SESSION,
+    PEER_SESSION,
+    OPERATIONS
+};
 
 enum { ROUNDS = 5 };
 
@@ -22,7 +33,7 @@ struct subject {
     size_t graph_len, sheet_len;
 };
 
-static uint64_t operate(unsigned operation, struct subject *s)
+static uint64_t operate(enum operation operation, struct subject *s)
 {
     switch (operation) {
     case SNELLAIR:
@@ -35,18 +46,28 @@ static uint64_t operate(unsigned operation, struct subject *s)
         return peer_work_out(s->graph, s->graph_len, s->sheet, s->sheet_len);
     case SNELLAIR_CHECK:
         return snellair_check(s->graph, s->graph_len, s->sheet, s->sheet_len);
-    default:
+    case PEER_CHECK:
         return peer_check(s->graph, s->graph_len, s->sheet, s->sheet_len);
+    case SNELLAIR_ONE_SHOT:
+        return snellair_one_shot(s->graph, s->graph_len);
+    case PEER_ONE_SHOT:
+        return peer_one_shot(s->graph, s->graph_len);
+    case SNELLAIR_SESSION:
+        return snellair_session(s->graph, s->graph_len);
+    default:
+        return peer_session(s->graph, s->graph_len);
     }
 }
 
-/* A time for different answers would mean nothing. */
-static void expect_same_answers(struct subject *s, const char *name)
+/* Of the operations from the first on. A time for different answers would mean
+ * nothing. */
+static void expect_same_answers(struct subject *s, enum operation first_one,
+                                enum operation last, const char *name)
 {
     uint8_t first[MOST_SHEET_BYTES];
-    uint64_t answer = operate(SNELLAIR, s);
+    uint64_t answer = operate(first_one, s);
     memcpy(first, s->sheet, s->sheet_len);
-    for (unsigned o = SWEEPING; o < MEASURED; o++)
+    for (enum operation o = first_one + 1; o <= last; o++)
         if (operate(o, s) != answer
             || memcmp(first, s->sheet, s->sheet_len) != 0) {
             printf("%s: the answers differ\n", name);
@@ -61,7 +82,7 @@ static double now(void)
     return (double)t.tv_sec * 1e6 + (double)t.tv_nsec / 1e3;
 }
 
-static double time_of(unsigned operation, struct subject *s, unsigned times)
+static double time_of(enum operation operation, struct subject *s, unsigned times)
 {
     double start = now();
     for (unsigned i = 0; i < times; i++)
@@ -69,7 +90,7 @@ static double time_of(unsigned operation, struct subject *s, unsigned times)
     return now() - start;
 }
 
-static unsigned times_needed(unsigned operation, struct subject *s)
+static unsigned times_needed(enum operation operation, struct subject *s)
 {
     unsigned times = 1;
     while (time_of(operation, s, times) < shortest)
@@ -84,30 +105,39 @@ static int compare_doubles(const void *a, const void *b)
 }
 
 /* In turn, so that a slow spell of the machine strikes all alike. */
-static void measure(struct subject *s, double median[MEASURED])
+static void measure(struct subject *s, enum operation first,
+                    enum operation last, double median[OPERATIONS])
 {
-    double taken[MEASURED][ROUNDS];
-    unsigned times[MEASURED];
-    for (unsigned o = 0; o < MEASURED; o++)
+    double taken[OPERATIONS][ROUNDS];
+    unsigned times[OPERATIONS];
+    for (enum operation o = first; o <= last; o++)
         times[o] = times_needed(o, s);
     for (unsigned round = 0; round < ROUNDS; round++)
-        for (unsigned o = 0; o < MEASURED; o++)
+        for (enum operation o = first; o <= last; o++)
             taken[o][round] = time_of(o, s, times[o]) / times[o];
-    for (unsigned o = 0; o < MEASURED; o++) {
+    for (enum operation o = first; o <= last; o++) {
         qsort(taken[o], ROUNDS, sizeof(double), compare_doubles);
         median[o] = taken[o][ROUNDS / 2];
     }
 }
 
-static void measure_case(const struct bench_case *c, struct draft *d,
-                         struct subject *s)
+static void measure_case(const struct bench_case *c, struct subject *s,
+                         enum operation first, enum operation last,
+                         double median[OPERATIONS])
 {
-    double us[MEASURED];
-    c->build(d);
-    s->graph_len = draft_write(d, s->graph);
-    s->sheet_len = sheet_bytes(draft_shape(d));
-    expect_same_answers(s, c->name);
-    measure(s, us);
+    static struct draft d;
+    c->build(&d);
+    s->graph_len = draft_write(&d, s->graph);
+    s->sheet_len = sheet_bytes(draft_shape(&d));
+    expect_same_answers(s, first, last, c->name);
+    measure(s, first, last, median);
+}
+
+/* Work out and check, by Snellair and by the peer. */
+static void print_case(const struct bench_case *c, struct subject *s)
+{
+    double us[OPERATIONS];
+    measure_case(c, s, SNELLAIR, PEER_CHECK, us);
     printf("%-30s | %11.1f %11.1f %6.2f %11.1f | %9.1f %9.1f %6.2f\n", c->name,
            us[SNELLAIR], us[SWEEPING], us[SNELLAIR] / us[SWEEPING],
            us[WORKLIST], us[SNELLAIR_CHECK], us[PEER_CHECK],
@@ -115,14 +145,28 @@ static void measure_case(const struct bench_case *c, struct draft *d,
     fflush(stdout);
 }
 
+/* One operation of Snellair and the peer's, which is the next. */
+static void print_pair(const struct bench_case *c, struct subject *s,
+                       enum operation snellairs)
+{
+    double us[OPERATIONS];
+    measure_case(c, s, snellairs, snellairs + 1, us);
+    printf("%-42s | %9.1f %9.1f %6.2f\n", c->name, us[snellairs],
+           us[snellairs + 1], us[snellairs] / us[snellairs + 1]);
+    fflush(stdout);
+}
+
 int main(void)
 {
-    static struct draft d;
     static struct subject s;
     printf("%-30s | %-42s | %-26s\n", "microseconds", "work out", "check");
     printf("%-30s | %11s %11s %6s %11s | %9s %9s %6s\n", "", "snellair",
            "sweeping", "ratio", "worklist", "snellair", "peer", "ratio");
     for (unsigned i = 0; i < BENCH_CASES; i++)
-        measure_case(&bench_cases[i], &d, &s);
+        print_case(&bench_cases[i], &s);
+    printf("\n%-42s | %9s %9s %6s\n", "microseconds", "snellair", "peer",
+           "ratio");
+    print_pair(&one_shot_case, &s, SNELLAIR_ONE_SHOT);
+    print_pair(&session_case, &s, SNELLAIR_SESSION);
     return 0;
 }

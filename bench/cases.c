@@ -225,6 +225,20 @@ static void build_random(struct draft *d)
     generate_limit_graph(&r, d);
 }
 
+static void build_one_shot(struct draft *d)
+{
+    struct random r = random_of(1, 2);
+    generate_limit_graph(&r, d);
+    generate_one_shot(&r, d);
+}
+
+static void build_session(struct draft *d)
+{
+    struct random r = random_of(1, 3);
+    generate_limit_graph(&r, d);
+    generate_session(&r, d);
+}
+
 const struct bench_case bench_cases[BENCH_CASES] = {
     {"file A", build_file_a},
     {"add-on of 60 nodes", build_addon},
@@ -237,3 +251,8 @@ const struct bench_case bench_cases[BENCH_CASES] = {
     {"deep recursion", build_recursion},
     {"any limit-size graph", build_random},
 };
+
+const struct bench_case one_shot_case = {"one-shot, limit-size graph that fits",
+                                         build_one_shot};
+const struct bench_case session_case = {"session, limit-size graph that fits",
+                                        build_session};

@@ -13,4 +13,7 @@ enum { BENCH_CASES = 10 };
 
 extern const struct bench_case bench_cases[BENCH_CASES];
 
+/* Limit-size graphs that fit the profile. */
+extern const struct bench_case one_shot_case, session_case;
+
 #endif

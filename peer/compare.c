@@ -23,10 +23,9 @@ struct one_case {
     uint8_t ours[ROOM], theirs[ROOM];
 };
 
-/* What came of work out with a sheet of another length and of the right one,
- * and of check. */
+/* What came of each comparison. */
 struct tallies {
-    struct tally wrong_length, work_out, check;
+    struct tally wrong_length, work_out, check, one_shot, session, fitting;
 };
 
 /* Both sides are lent the same bytes. */
@@ -36,11 +35,24 @@ static void lend(struct one_case *c, size_t sheet_len)
     memcpy(c->theirs, c->ours, sheet_len + 2 * MARGIN);
 }
 
-static void print_difference(const struct one_case *c, const char *operation,
-                             uint64_t ours, uint64_t theirs)
+static void print_case(const struct one_case *c, const char *operation)
 {
     printf("seed %" PRIu64 " case %" PRIu64 ", %s: ", c->seed, c->number,
            operation);
+}
+
+static bool blame(const struct one_case *c, const char *operation,
+                  const char *what)
+{
+    print_case(c, operation);
+    printf("%s\n", what);
+    return false;
+}
+
+static void print_difference(const struct one_case *c, const char *operation,
+                             uint64_t ours, uint64_t theirs)
+{
+    print_case(c, operation);
     printf("snellair %" PRIu64 " at %" PRIu64 ", peer %" PRIu64 " at %" PRIu64
            "\n", theirs & 0xFFFF, theirs >> 16, ours & 0xFFFF, ours >> 16);
     for (size_t i = 0; i < c->sheet_len + 2 * MARGIN; i++)
@@ -87,18 +99,60 @@ static bool compare_check(struct one_case *c, size_t sheet_len,
     return agree(c, "check", ours, theirs);
 }
 
-/* One graph in 64 of limit size, one file in 4 damaged. */
-static void make_graph(struct random *r, struct one_case *c)
+/* A graph that fits one-shot passes. */
+static bool compare_pass(struct one_case *c, struct tally *tally)
+{
+    if (!compare_work_out(c, sheet_bytes(shape_of(c->graph, c->graph_len)),
+                          tally))
+        return false;
+    if (tally->times[0] == tally_all(tally))
+        return true;
+    return blame(c, "fits one-shot", "it does not pass");
+}
+
+static bool compare_profiles(struct one_case *c, struct tallies *tallies)
+{
+    uint64_t one_shot = peer_one_shot(c->graph, c->graph_len);
+    uint64_t session = peer_session(c->graph, c->graph_len);
+    tally_note(&tallies->one_shot, one_shot);
+    tally_note(&tallies->session, session);
+    if (!agree(c, "one-shot", one_shot,
+               snellair_one_shot(c->graph, c->graph_len))
+        || !agree(c, "session", session,
+                  snellair_session(c->graph, c->graph_len)))
+        return false;
+    return one_shot != 0 || compare_pass(c, &tallies->fitting);
+}
+
+/* One graph in 64 of limit size. */
+static void make_draft(struct random *r, struct one_case *c)
 {
     static const struct sizes small = {6, 30, 6, 255, 255};
     if (random_below(r, 64) == 0)
         generate_limit_graph(r, &c->draft);
     else
         generate_graph(r, &small, &c->draft);
+}
+
+static void write_graph(struct one_case *c)
+{
     c->graph_len = draft_write(&c->draft, c->graph);
-    if (random_below(r, 4) == 0)
-        c->graph_len = generate_damage(r, &c->draft, c->graph, c->graph_len);
     memcpy(c->graph_before, c->graph, c->graph_len);
+}
+
+static void damage_graph(struct random *r, struct one_case *c)
+{
+    c->graph_len = generate_damage(r, &c->draft, c->graph, c->graph_len);
+    memcpy(c->graph_before, c->graph, c->graph_len);
+}
+
+/* One file in 4 is damaged. */
+static void make_graph(struct random *r, struct one_case *c)
+{
+    make_draft(r, c);
+    write_graph(c);
+    if (random_below(r, 4) == 0)
+        damage_graph(r, c);
 }
 
 /* Worked out for another opening stock, so the sheet may obey and be too low,
@@ -113,6 +167,24 @@ static void work_out_for_other_opening(struct random *r, struct one_case *c)
     size_t length = draft_write(&other, graph);
     peer_work_out(graph, length, c->ours + MARGIN,
                   sheet_bytes(draft_shape(&other)));
+}
+
+/* Graphs that fit a profile, as they are and with one field changed. */
+static bool compare_fitting(struct random *r, struct one_case *c,
+                            struct tallies *tallies)
+{
+    for (unsigned i = 0; i < 4; i++) {
+        if (i % 2 != 0) {
+            generate_profile_change(r, &c->draft);
+        } else {
+            make_draft(r, c);
+            (i == 0 ? generate_one_shot : generate_session)(r, &c->draft);
+        }
+        write_graph(c);
+        if (!compare_profiles(c, tallies))
+            return false;
+    }
+    return true;
 }
 
 static bool compare_case(struct one_case *c, struct tallies *tallies)
@@ -135,7 +207,8 @@ static bool compare_case(struct one_case *c, struct tallies *tallies)
             return false;
     }
     work_out_for_other_opening(&r, c);
-    return compare_check(c, right, &tallies->check);
+    return compare_check(c, right, &tallies->check)
+        && compare_profiles(c, tallies) && compare_fitting(&r, c, tallies);
 }
 
 int main(int argc, char **argv)
@@ -157,6 +230,9 @@ int main(int argc, char **argv)
     tally_print("work out, wrong length", &tallies.wrong_length);
     tally_print("work out", &tallies.work_out);
     tally_print("check", &tallies.check);
+    tally_print("one-shot", &tallies.one_shot);
+    tally_print("session", &tallies.session);
+    tally_print("work out where one-shot fits", &tallies.fitting);
     printf("%" PRIu64 " cases, no difference\n", cases);
     if (2 * tally_verdicts(&tallies.work_out) < cases) {
         printf("fewer than half of the graphs came to a verdict\n");

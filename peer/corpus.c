@@ -7,15 +7,6 @@
 
 #include <stdio.h>
 
-/* Of a file that is not refused. */
-static struct shape shape_of(const uint8_t *graph, size_t length)
-{
-    const uint8_t *trailer = graph + length - TRAILER_BYTES;
-    return (struct shape){read_word(trailer + 2 * METHODS),
-                          read_word(trailer + 2 * NODES),
-                          read_word(trailer + 2 * OPENING)};
-}
-
 static void print_block(struct shape s, const uint8_t *sheet, unsigned block)
 {
     unsigned first = block_at(s, block);

@@ -99,6 +99,18 @@ bool draft_catch(struct draft *d, unsigned from, unsigned exception,
     return add_row(&d->catches, from, exception, to);
 }
 
+void draft_alter(struct draft_rows *rows, unsigned row, unsigned field,
+                 unsigned value)
+{
+    uint16_t altered[3];
+    memcpy(altered, rows->row[row], sizeof altered);
+    altered[field] = (uint16_t)value;
+    rows->count--;
+    memmove(rows->row[row], rows->row[row + 1],
+            (rows->count - row) * sizeof rows->row[0]);
+    add_row(rows, altered[0], altered[1], altered[2]);
+}
+
 struct shape draft_shape(const struct draft *d)
 {
     return (struct shape){d->methods, d->nodes, d->types};

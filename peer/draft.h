@@ -46,6 +46,11 @@ bool draft_callee(struct draft *d, unsigned node, unsigned method);
 bool draft_catch(struct draft *d, unsigned from, unsigned exception,
                  unsigned to);
 
+/* Gives a row another value in one field, and so another place. It is gone if
+ * there is such a row already. */
+void draft_alter(struct draft_rows *rows, unsigned row, unsigned field,
+                 unsigned value);
+
 struct shape draft_shape(const struct draft *d);
 
 /* Writes the file, at most MOST_GRAPH_BYTES, and answers its length. */

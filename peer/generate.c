@@ -239,6 +239,163 @@ void generate_limit_graph(struct random *r, struct draft *d)
         add_rows(r, d, random_below(r, d->nodes));
 }
 
+/* ---- Profiles ---- */
+
+static void make_plain(struct draft *d, unsigned node)
+{
+    struct draft_node plain = {.method = d->node[node].method, .kind = PLAIN};
+    d->node[node] = plain;
+}
+
+/* Has a plain node or a grant ask for a draw. It can do so for draws of one
+ * type only. */
+static bool make_ask(struct draft *d, unsigned node, unsigned drawn,
+                     bool asks[MOST_NODES])
+{
+    struct draft_node *n = &d->node[node];
+    if ((n->kind != PLAIN && n->kind != GRANT)
+        || (asks[node] && n->number != d->node[drawn].number))
+        return false;
+    n->kind = GRANT;
+    n->number = d->node[drawn].number;
+    n->count = 1;
+    n->rights |= d->node[drawn].rights;
+    asks[node] = true;
+    return true;
+}
+
+/* Of the same method, where the entry is no draw. */
+static unsigned other_than_draw(struct random *r, const struct draft *d,
+                                unsigned node)
+{
+    do
+        node = other_node(r, d, node);
+    while (d->node[node].kind == DRAW);
+    return node;
+}
+
+void generate_one_shot(struct random *r, struct draft *d)
+{
+    const struct draft_rows flow = d->flow;
+    bool asks[MOST_NODES] = {false};
+    for (unsigned m = 0; m < d->methods; m++)
+        if (d->node[d->entry[m]].kind == DRAW)
+            make_plain(d, d->entry[m]);
+    for (unsigned row = 0; row < d->catches.count; row++)
+        if (d->node[d->catches.row[row][2]].kind == DRAW)
+            make_plain(d, d->catches.row[row][2]);
+    d->flow.count = 0;
+    for (unsigned row = 0; row < flow.count; row++) {
+        unsigned from = flow.row[row][0], to = flow.row[row][1];
+        if (d->node[to].kind == DRAW && !make_ask(d, from, to, asks))
+            to = other_than_draw(r, d, from);
+        draft_flow(d, from, to);
+    }
+    for (unsigned i = 0; i < 3 * d->nodes; i++) {
+        unsigned to = i % d->nodes, from = other_node(r, d, to);
+        if (d->node[to].kind == DRAW && make_ask(d, from, to, asks))
+            draft_flow(d, from, to);
+    }
+}
+
+void generate_session(struct random *r, struct draft *d)
+{
+    const struct draft_rows calls = d->calls;
+    for (unsigned n = 0; n < d->nodes; n++)
+        if (d->node[n].kind == GRANT && d->node[n].method == 0)
+            d->node[n].count = ENDLESS;
+        else if (d->node[n].kind == GRANT)
+            make_plain(d, n);
+    if (d->methods == 1)
+        draft_node(d, draft_method(d), RETURN);
+    d->calls.count = 0;
+    for (unsigned row = 0; row < calls.count; row++) {
+        unsigned method = calls.row[row][1];
+        if (method == 0)
+            method = 1 + random_below(r, d->methods - 1);
+        draft_callee(d, calls.row[row][0], method);
+    }
+}
+
+/* Of any node of this kind, or of any node at all if there is none. */
+static struct draft_node *any_of_kind(struct random *r, struct draft *d,
+                                      enum kind kind)
+{
+    unsigned node = random_below(r, d->nodes);
+    for (unsigned i = 0; i < d->nodes && d->node[node].kind != kind; i++)
+        node = (node + 1) % d->nodes;
+    return &d->node[node];
+}
+
+/* In a grant or a draw: type, rights or count. */
+static void change_use(struct random *r, struct draft *d)
+{
+    static const uint8_t counts[6] = {0, 1, 2, 3, 254, 255};
+    struct draft_node *n = any_of_kind(r, d, one_in(r, 3) ? DRAW : GRANT);
+    if (n->kind != GRANT && n->kind != DRAW)
+        return;
+    if (n->kind == GRANT && one_in(r, 2))
+        n->count = counts[random_below(r, 6)];
+    else if (one_in(r, 3))
+        n->number = (uint8_t)random_below(r, d->types);
+    else
+        n->rights ^= (uint16_t)(1u << random_below(r, 16));
+}
+
+/* A plain node, a grant or a draw becomes another of them. */
+static void change_kind(struct random *r, struct draft *d)
+{
+    static const enum kind kinds[3] = {PLAIN, GRANT, DRAW};
+    struct draft_node *n = any_of_kind(r, d, kinds[random_below(r, 3)]);
+    if (n->kind > DRAW)
+        return;
+    *n = (struct draft_node){.method = n->method,
+                             .kind = (uint8_t)kinds[random_below(r, 3)]};
+    if (n->kind == GRANT)
+        n->count = one_in(r, 2) ? ENDLESS : 1;
+}
+
+/* Leads a row to another node of the same method. */
+static void change_target(struct random *r, const struct draft *d,
+                          struct draft_rows *rows, unsigned field)
+{
+    if (rows->count == 0)
+        return;
+    unsigned row = random_below(r, rows->count);
+    draft_alter(rows, row, field, other_node(r, d, rows->row[row][0]));
+}
+
+static void change_callee(struct random *r, struct draft *d)
+{
+    unsigned method = one_in(r, 2) ? 0 : random_below(r, d->methods);
+    if (d->calls.count > 0)
+        draft_alter(&d->calls, random_below(r, d->calls.count), 1, method);
+}
+
+void generate_profile_change(struct random *r, struct draft *d)
+{
+    unsigned m = random_below(r, d->methods);
+    switch (random_below(r, 8)) {
+    case 0:
+        d->entry[m] = (uint16_t)other_node(r, d, d->entry[m]);
+        break;
+    case 1:
+        change_target(r, d, &d->flow, 1);
+        break;
+    case 2:
+        change_target(r, d, &d->catches, 2);
+        break;
+    case 3:
+        change_callee(r, d);
+        break;
+    case 4:
+        change_kind(r, d);
+        break;
+    default:
+        change_use(r, d);
+    }
+}
+
 /* ---- Damage ---- */
 
 static void damage_trailer(struct random *r, uint8_t *trailer)

@@ -29,6 +29,15 @@ void generate_graph(struct random *r, const struct sizes *most,
  * full tables of flow, calls and catches. */
 void generate_limit_graph(struct random *r, struct draft *d);
 
+/* Each leads rows elsewhere and makes other nodes of some, so that the graph
+ * fits the profile. A method is added where none but method 0 could be
+ * called. */
+void generate_one_shot(struct random *r, struct draft *d);
+void generate_session(struct random *r, struct draft *d);
+
+/* Changes one field that a profile looks at; the graph stays well formed. */
+void generate_profile_change(struct random *r, struct draft *d);
+
 /* How many bytes a damaged file or a wrong sheet may have too many. */
 enum { MOST_ADDED = 16 };
 

@@ -225,9 +225,8 @@ static void find_rows(struct graph *g)
     }
 }
 
-/* Answers 1 to 10. The graph is ready for use after 0. */
-static uint64_t judge(struct graph *g, const uint8_t *bytes, size_t length,
-                      size_t sheet_len)
+/* Answers 1 to 9. The graph is ready for use after 0. */
+static uint64_t judge_file(struct graph *g, const uint8_t *bytes, size_t length)
 {
     uint64_t refusal = judge_trailer(g, bytes, length);
     if (refusal == 0)
@@ -236,10 +235,18 @@ static uint64_t judge(struct graph *g, const uint8_t *bytes, size_t length,
         return refusal;
     g->shape = (struct shape){g->count[METHODS], g->count[NODES],
                               g->count[OPENING]};
-    if (sheet_len != sheet_bytes(g->shape))
-        return answer(10, 0);
     find_rows(g);
     return 0;
+}
+
+/* Answers 1 to 10. */
+static uint64_t judge(struct graph *g, const uint8_t *bytes, size_t length,
+                      size_t sheet_len)
+{
+    uint64_t refusal = judge_file(g, bytes, length);
+    if (refusal == 0 && sheet_len != sheet_bytes(g->shape))
+        return answer(10, 0);
+    return refusal;
 }
 
 /* ---- Effects of all types ---- */
@@ -683,4 +690,74 @@ uint64_t peer_check(const uint8_t *graph, size_t graph_len,
     if (rule != 0)
         return answer(12, rule);
     return verdict(&g, sheet);
+}
+
+/* ---- Profiles ---- */
+
+/* Notes the nodes that break a profile. */
+typedef void find_unfit(const struct graph *g, bool unfit[MOST_NODES]);
+
+static bool asks_for(const struct graph *g, unsigned node, unsigned drawn)
+{
+    return kind_of(g, node) == GRANT && count_of(g, node) == 1
+        && number_of(g, node) == number_of(g, drawn)
+        && (rights_of(g, drawn) & ~rights_of(g, node)) == 0;
+}
+
+static void note_draw(const struct graph *g, bool unfit[MOST_NODES],
+                      unsigned node)
+{
+    if (kind_of(g, node) == DRAW)
+        unfit[node] = true;
+}
+
+/* What leads to a draw must be a flow row from a grant just for it. */
+static void find_unfit_draws(const struct graph *g, bool unfit[MOST_NODES])
+{
+    for (unsigned m = 0; m < g->count[METHODS]; m++)
+        note_draw(g, unfit, entry_of(g, m));
+    for (unsigned row = 0; row < g->count[FLOW]; row++) {
+        unsigned to = cell(g, FLOW, row, 1);
+        if (!asks_for(g, cell(g, FLOW, row, 0), to))
+            note_draw(g, unfit, to);
+    }
+    for (unsigned row = 0; row < g->count[CATCHES]; row++)
+        note_draw(g, unfit, cell(g, CATCHES, row, 2));
+}
+
+/* Grants stand in method 0 and are endless; nothing calls method 0. */
+static void find_unfit_asking(const struct graph *g, bool unfit[MOST_NODES])
+{
+    for (unsigned node = 0; node < g->count[NODES]; node++)
+        unfit[node] = kind_of(g, node) == GRANT
+                   && (method_of(g, node) != 0 || count_of(g, node) != ENDLESS);
+    for (unsigned row = 0; row < g->count[CALLS]; row++)
+        if (cell(g, CALLS, row, 1) == 0)
+            unfit[cell(g, CALLS, row, 0)] = true;
+}
+
+/* Answers 1 to 9, 14 and 0. */
+static uint64_t judge_profile(const uint8_t *graph, size_t graph_len,
+                              find_unfit *find)
+{
+    struct graph g;
+    bool unfit[MOST_NODES] = {false};
+    uint64_t refusal = judge_file(&g, graph, graph_len);
+    if (refusal != 0)
+        return refusal;
+    find(&g, unfit);
+    for (unsigned node = 0; node < g.count[NODES]; node++)
+        if (unfit[node])
+            return answer(14, node);
+    return 0;
+}
+
+uint64_t peer_one_shot(const uint8_t *graph, size_t graph_len)
+{
+    return judge_profile(graph, graph_len, find_unfit_draws);
+}
+
+uint64_t peer_session(const uint8_t *graph, size_t graph_len)
+{
+    return judge_profile(graph, graph_len, find_unfit_asking);
 }

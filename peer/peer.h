@@ -1,6 +1,7 @@
-/* An independent peer of Snellair: written from document 01 and the readings
- * of it that docs/DECISIONS.md keeps, with the packed answer and the order of
- * a block's words as in docs/FORMAT.md, and without a look at Snellair's code.
+/* An independent peer of Snellair: written from documents 01 and 02 and the
+ * readings of them that docs/DECISIONS.md keeps, with the packed answer and the
+ * order of a block's words as in docs/FORMAT.md, and without a look at
+ * Snellair's code.
  * Each operation answers number + 65,536 * place. */
 #ifndef PEER_H
 #define PEER_H
@@ -18,5 +19,10 @@ uint64_t peer_work_out_sweeping(const uint8_t *graph, size_t graph_len,
 
 uint64_t peer_check(const uint8_t *graph, size_t graph_len,
                     const uint8_t *sheet, size_t sheet_len);
+
+/* Document 02's profiles: 0 fits, 14 doesn't, with the lowest node that breaks
+ * it. */
+uint64_t peer_one_shot(const uint8_t *graph, size_t graph_len);
+uint64_t peer_session(const uint8_t *graph, size_t graph_len);
 
 #endif

@@ -19,6 +19,15 @@ struct shape {
     unsigned methods, nodes, types;
 };
 
+/* Of the sheet for a file that is not refused. */
+static inline struct shape shape_of(const uint8_t *graph, size_t length)
+{
+    const uint8_t *trailer = graph + length - TRAILER_BYTES;
+    return (struct shape){read_word(trailer + 2 * METHODS),
+                          read_word(trailer + 2 * NODES),
+                          read_word(trailer + 2 * OPENING)};
+}
+
 struct effects {
     struct effect of[MOST_TYPES];
 };

@@ -22,13 +22,18 @@ static inline unsigned long tally_verdicts(const struct tally *t)
     return t->times[0] + t->times[13];
 }
 
-/* The answers that came, after the name and how many there were. */
-static inline void tally_print(const char *name, const struct tally *t)
+static inline unsigned long tally_all(const struct tally *t)
 {
     unsigned long all = 0;
     for (unsigned number = 0; number < NUMBERS; number++)
         all += t->times[number];
-    printf("%s: %lu, by answer", name, all);
+    return all;
+}
+
+/* The answers that came, after the name and how many there were. */
+static inline void tally_print(const char *name, const struct tally *t)
+{
+    printf("%s: %lu, by answer", name, tally_all(t));
     for (unsigned number = 0; number < NUMBERS; number++)
         if (t->times[number] != 0)
             printf(" %u:%lu", number, t->times[number]);

@@ -1,6 +1,6 @@
 /* Tests the peer alone: effects against their meaning, document 01's figures,
- * one engine against the other, check against work out, and the worked-out
- * sheet against runs. Ends with status 1 at the first thing that fails. */
+ * profiles, one engine against the other, check against work out, and the
+ * worked-out sheet against runs. Ends with status 1 at the first thing that fails. */
 #include "effect.h"
 #include "generate.h"
 #include "peer.h"
@@ -438,6 +438,167 @@ static void test_figures(struct draft *d, uint8_t *sheet)
            " of answers\n");
 }
 
+/* ---- Profiles ---- */
+
+/* The request's words, node by node. */
+static bool breaks_one_shot(const struct draft *d, unsigned node)
+{
+    const struct draft_node *drawn = &d->node[node];
+    if (drawn->kind != DRAW)
+        return false;
+    for (unsigned m = 0; m < d->methods; m++)
+        if (d->entry[m] == node)
+            return true;
+    for (unsigned row = 0; row < d->catches.count; row++)
+        if (d->catches.row[row][2] == node)
+            return true;
+    for (unsigned row = 0; row < d->flow.count; row++) {
+        const struct draft_node *from = &d->node[d->flow.row[row][0]];
+        bool asks = from->kind == GRANT && from->number == drawn->number
+                 && (from->rights | drawn->rights) == from->rights
+                 && from->count == 1;
+        if (d->flow.row[row][1] == node && !asks)
+            return true;
+    }
+    return false;
+}
+
+static bool breaks_session(const struct draft *d, unsigned node)
+{
+    const struct draft_node *n = &d->node[node];
+    for (unsigned row = 0; row < d->calls.count; row++)
+        if (d->calls.row[row][0] == node && d->calls.row[row][1] == 0)
+            return true;
+    return n->kind == GRANT && (n->method != 0 || n->count != 255);
+}
+
+static uint64_t lowest_that(bool breaks(const struct draft *, unsigned),
+                            const struct draft *d)
+{
+    for (unsigned node = 0; node < d->nodes; node++)
+        if (breaks(d, node))
+            return packed(14, node);
+    return 0;
+}
+
+/* Answers what one-shot does; a graph that fits it must pass. */
+static uint64_t test_profiles_of(const struct draft *d, uint8_t *sheet,
+                                 struct tally *seen)
+{
+    uint8_t graph[MOST_GRAPH_BYTES];
+    size_t length = draft_write(d, graph);
+    uint8_t *lent = copy_of(graph, length);
+    uint64_t one_shot = peer_one_shot(lent, length);
+    uint64_t session = peer_session(lent, length);
+    free(lent);
+    expect(one_shot == lowest_that(breaks_one_shot, d), "one-shot", one_shot);
+    expect(session == lowest_that(breaks_session, d), "session", session);
+    tally_note(&seen[0], one_shot);
+    tally_note(&seen[1], session);
+    if (one_shot == 0)
+        expect(work_out_draft(d, sheet) == 0, "fits, so passes", 0);
+    return one_shot;
+}
+
+/* A grant at the entry, node 0, before a draw of type 1 with rights 0101h, node
+ * 1, which nothing else leads to. */
+static void draft_one_use(struct draft *d, unsigned type, unsigned count,
+                          unsigned rights)
+{
+    draft_start(d, 2);
+    unsigned m = draft_method(d);
+    unsigned asked = draft_grant(d, m, type, count, rights);
+    draft_flow(d, asked, draft_draw(d, m, 1, 0x0101));
+}
+
+static void expect_profiles(const struct draft *d, uint64_t one_shot,
+                            uint64_t session, const char *what)
+{
+    uint8_t graph[MOST_GRAPH_BYTES];
+    size_t length = draft_write(d, graph);
+    expect(peer_one_shot(graph, length) == one_shot, what, 1);
+    expect(peer_session(graph, length) == session, what, 2);
+}
+
+static void test_one_shot_figures(struct draft *d)
+{
+    const uint64_t grant_unfit = packed(14, 0), draw_unfit = packed(14, 1);
+    draft_one_use(d, 1, 1, 0x0301);
+    expect_profiles(d, 0, grant_unfit, "rights contain the draw's");
+    draft_one_use(d, 1, 2, 0x0101);
+    expect_profiles(d, draw_unfit, grant_unfit, "count 2");
+    draft_one_use(d, 1, 255, 0x0101);
+    expect_profiles(d, draw_unfit, 0, "endless is not 1");
+    draft_one_use(d, 1, 1, 0x0001);
+    expect_profiles(d, draw_unfit, grant_unfit, "a right is missing");
+    draft_one_use(d, 0, 1, 0x0101);
+    expect_profiles(d, draw_unfit, grant_unfit, "another type");
+    draft_one_use(d, 1, 1, 0x0101);
+    draft_flow(d, 1, 1);
+    expect_profiles(d, draw_unfit, grant_unfit, "from the draw itself");
+    draft_one_use(d, 1, 1, 0x0101);
+    draft_draw(d, 0, 0, 0xFFFF);
+    expect_profiles(d, 0, grant_unfit, "no row leads to a draw");
+    draft_catch(d, draft_throw(d, 0, 3), 3, 2);
+    expect_profiles(d, packed(14, 2), grant_unfit, "caught into a draw");
+    draft_one_use(d, 1, 1, 0x0101);
+    draft_draw(d, draft_method(d), 0, 0);
+    expect_profiles(d, packed(14, 2), grant_unfit, "entry never called");
+    d->opening_count[0] = 256;
+    expect_profiles(d, packed(9, 0), packed(9, 0), "refused first");
+}
+
+static void test_session_figures(struct draft *d)
+{
+    draft_file_a(d, 255, 2);
+    expect_profiles(d, packed(14, 3), 0, "file A with endless");
+    draft_callee(d, 1, 0);
+    expect_profiles(d, packed(14, 3), packed(14, 1), "method 0 called");
+    draft_file_a(d, 254, 2);
+    expect_profiles(d, packed(14, 3), packed(14, 0), "254 is not endless");
+    draft_file_a(d, 255, 2);
+    draft_grant(d, 1, 0, 255, 0x0101);
+    expect_profiles(d, packed(14, 3), packed(14, 5), "grant in method 1");
+    draft_file_a(d, 255, 2);
+    draft_callee(d, draft_call(d, 1, 1), 1);
+    expect_profiles(d, packed(14, 3), 0, "another method called by its own");
+}
+
+static unsigned reached_draws(const struct draft *d, const uint8_t *sheet)
+{
+    unsigned reached = 0;
+    struct effects stock;
+    for (unsigned n = 0; n < d->nodes; n++)
+        reached += d->node[n].kind == DRAW && stock_at(d, sheet, n, &stock);
+    return reached;
+}
+
+static void test_profiles(unsigned cases, struct draft *d, uint8_t *sheet)
+{
+    struct tally seen[2] = {{{0}}, {{0}}};
+    unsigned long draws = 0;
+    test_one_shot_figures(d);
+    test_session_figures(d);
+    for (unsigned i = 0; i < cases; i++) {
+        struct random r = random_of(SEED + 5, i);
+        generate_graph(&r, &small, d);
+        generate_one_shot(&r, d);
+        expect(test_profiles_of(d, sheet, seen) == 0, "made to fit", i);
+        draws += reached_draws(d, sheet);
+        generate_profile_change(&r, d);
+        test_profiles_of(d, sheet, seen);
+        generate_graph(&r, &small, d);
+        generate_session(&r, d);
+        expect(lowest_that(breaks_session, d) == 0, "made to fit", i);
+        test_profiles_of(d, sheet, seen);
+        generate_profile_change(&r, d);
+        test_profiles_of(d, sheet, seen);
+    }
+    tally_print("one-shot", &seen[0]);
+    tally_print("session", &seen[1]);
+    printf("draws reached where one-shot fits: %lu\n", draws);
+}
+
 /* ---- Check on sheets of every kind ---- */
 
 /* Whether the sheet marks all that the greatest marks, and lies below it. */
@@ -592,6 +753,7 @@ int main(int argc, char **argv)
     memset(sheet, 0xA5, sizeof sheet);
     test_effects();
     test_figures(&d, sheet);
+    test_profiles(cases, &d, sheet);
     test_small_graphs(cases, &d, sheet);
     test_limit_graphs(cases / 50, &d, sheet);
     test_damaged_files(2 * cases, &d, sheet);
