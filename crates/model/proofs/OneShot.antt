@@ -1,17 +1,13 @@
 -- A draw that is come to only along flow rows from grants of what it draws is never overdrawn: the last step into it covers it.
-use mathlib.Core.Path.{_≡_, refl, subst, ap, _∙_}
-use mathlib.Core.Bool.{true, _&&_}
+use mathlib.Core.Path.{_≡_, refl, sym, subst}
+use mathlib.Core.List.{List}
 use Prim.Native.Nat.{ℕ, _≤_, _<_}
-use lib.Dec.{ltb, eqb}
-use borrow.Author.Tests.{lt-ltb, le-leb, eq-eqb}
-use Rattle.single.specs.declared.Held.{Held}
-use Rattle.single.specs.Number.{within}
-use Rattle.single.specs.Single.{coversHeld}
+use lib.ListN.{getD}
 use Rattle.effect.specs.declared.Stock.{Stock}
-use Rattle.effect.specs.Six.{heldAt, heldIf}
-use Rattle.effect.specs.Whole.{coversOf}
-use Rattle.effect.proofs.Six.{stock-at}
-use Rattle.model.specs.Stocks.{grant, holding, done}
+use Rattle.effect.specs.Coordinate.{bit}
+use Rattle.effect.specs.Meaning.{with-at, replaced}
+use Rattle.effect.proofs.Six.{below-six}
+use Rattle.model.specs.Stocks.{grant, draw, done, Covered}
 use Rattle.model.specs.Machine.{Graph, Doing, Config, At, Out, Step, along, enter, again, back, caught, leaves, handled, passes, stay, more, Run, Overdraws}
 use Rattle.model.proofs.Formed.{Formed}
 use Rattle.model.proofs.Open.{Open, open-run}
@@ -55,9 +51,14 @@ module _ {Stock : Type 0} (G : Graph) (D : Doing Stock) where
     not-overdrawn (s, p, u) = u (covered (p .1) refl)
 
 -- A grant of type t with the rights drawn among its own and a count of at least 1 leaves what covers a draw of type t.
-pub grant-covers : (t p q m : ℕ) → t < 6 → within p q ≡ true → 1 ≤ m → (s : Stock) → coversOf (done (grant t q m) s) t p ≡ true
-unfolding done holding coversOf coversHeld
+pub grant-covers : (t p q m : ℕ) → t < 6 → ((b : ℕ) → bit b p ≤ bit b q) → 1 ≤ m → (s : Stock) → Covered (draw t p) (done (grant t q m) s)
+unfolding done replaced with-at
 grant-covers t p q m l w c s =
-    let h : Held = record { rights = q; count = m } in
-    let e : heldAt (holding t h s) t ≡ h = stock-at (λ k. heldIf (eqb k t) h (heldAt s k)) t l ∙ simp (eq-eqb t t refl) in
-    ap (λ x. ltb t 6 && coversHeld x p) e ∙ simp (lt-ltb t 6 l, w, le-leb 1 m c)
+    record {
+      a-type = l;
+      every-right = λ b. subst (λ (r : ℕ). bit b p ≤ bit b r) (sym (hit q (s .rights))) (w b);
+      a-count = subst (λ (r : ℕ). 1 ≤ r) (sym (hit m (s .counts))) c;
+    }
+  where
+    hit : (v : ℕ) (xs : List ℕ) → getD (with-at t v xs) t 0 ≡ v
+    hit v xs = below-six (λ k. getD (with-at k v xs) k 0 ≡ v) refl refl refl refl refl refl t l

@@ -9,7 +9,9 @@ use native.Mathlib.Omega.{arith}
 use lib.Dec.{eqb}
 use borrow.Author.Tests.{eqb-true, eq-eqb, not-true}
 use Rattle.words.proofs.Tests.{and-l, and-r}
-use Rattle.single.specs.Number.{within}
+use lib.Bits.{bitAnd}
+use Rattle.effect.proofs.Compute.{within}
+use Rattle.effect.proofs.Bit.{within-bit, bit-within}
 use Rattle.answer.specs.declared.Answer.{Answer}
 use Rattle.answer.specs.declared.Answer.the-variants.{Pass}
 use Rattle.answer.proofs.Settled.{says-only, says}
@@ -50,19 +52,19 @@ module _ (f : List ℕ) where
   drawn n d = eq-eqb _ _ (d .1)
 
   asks-says : (g d : ℕ) → asks f t g d ≡ true → Asks f g d
-  unfolding asks
+  unfolding asks within
   asks-says g d h =
       let a = eqb (nodeKind f t g) grantKind in
       let b = eqb (nodeNumber f t g) (nodeNumber f t d) in
-      let c = within (nodeRights f t d) (nodeRights f t g) in
+      let c = eqb (bitAnd (nodeRights f t d) (nodeRights f t g)) (nodeRights f t d) in
       let e = eqb (nodeCount f t g) 1 in
       let abc : (a && b && c) ≡ true = and-l (a && b && c) e h in
       let ab : (a && b) ≡ true = and-l (a && b) c abc in
-      record { is-grant = eqb-true _ _ (and-l a b ab); same-type = eqb-true _ _ (and-r a b ab); rights = and-r (a && b) c abc; once = eqb-true _ _ (and-r (a && b && c) e h) }
+      record { is-grant = eqb-true _ _ (and-l a b ab); same-type = eqb-true _ _ (and-r a b ab); rights = within-bit _ _ (and-r (a && b) c abc); once = eqb-true _ _ (and-r (a && b && c) e h) }
 
   said-asks : (g d : ℕ) → Asks f g d → asks f t g d ≡ true
-  unfolding asks
-  said-asks g d a = simp (eq-eqb _ _ (a .is-grant), eq-eqb _ _ (a .same-type), a .rights, eq-eqb _ _ (a .once))
+  unfolding asks within
+  said-asks g d a = simp (eq-eqb _ _ (a .is-grant), eq-eqb _ _ (a .same-type), bit-within _ _ (a .rights), eq-eqb _ _ (a .once))
 
   -- a node asks for a draw, or does not
   pub asked : (g d : ℕ) → Dec (Asks f g d)

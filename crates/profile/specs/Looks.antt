@@ -3,8 +3,8 @@ use Prim.Native.Nat.{ℕ, min}
 use mathlib.Core.Bool.{Bool, cond, _&&_, not}
 use mathlib.Core.List.{List}
 use lib.Dec.{eqb}
+use lib.Bits.{bitAnd}
 use Rattle.words.specs.Least.{leastOf}
-use Rattle.single.specs.Number.{within}
 use Rattle.tables.specs.declared.Tables.{Tables}
 use Rattle.tables.specs.Kinds.{grantKind, drawKind}
 use Rattle.tables.specs.Fields.{entryOf, nodeMethod, nodeKind, nodeNumber, nodeCount, nodeRights, flowFrom, flowTo, callNode, callMethod, catchTo}
@@ -38,7 +38,7 @@ unfoldable pub asks : List ℕ → Tables → ℕ → ℕ → Bool
 asks f t g d =
     eqb (nodeKind f t g) grantKind
     && eqb (nodeNumber f t g) (nodeNumber f t d)
-    && within (nodeRights f t d) (nodeRights f t g)
+    && eqb (bitAnd (nodeRights f t d) (nodeRights f t g)) (nodeRights f t d)
     && eqb (nodeCount f t g) 1
 
 -- whether row k convicts that node

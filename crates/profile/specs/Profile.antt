@@ -1,9 +1,8 @@
 -- The profiles, over the rows of a graph file: which nodes break them, and what is answered.
-use Prim.Native.Nat.{ℕ, _<_}
+use Prim.Native.Nat.{ℕ, _≤_, _<_}
 use mathlib.Core.Path.{_≡_}
-use mathlib.Core.Bool.{true}
 use mathlib.Core.List.{List}
-use Rattle.single.specs.Number.{within}
+use Rattle.effect.specs.Coordinate.{bit}
 use Rattle.answer.specs.declared.Answer.{Answer}
 use Rattle.answer.specs.declared.Answer.the-variants.{Pass}
 use Rattle.answer.specs.Number.{numberOf, placeOf, Says}
@@ -22,7 +21,7 @@ module _ (f : List ℕ) where
   pub record Asks (g d : ℕ) : Type 0 where
     pub is-grant : nodeKind f t g ≡ grantKind
     pub same-type : nodeNumber f t g ≡ nodeNumber f t d
-    pub rights : within (nodeRights f t d) (nodeRights f t g) ≡ true
+    pub rights : (b : ℕ) → bit b (nodeRights f t d) ≤ bit b (nodeRights f t g)
     pub once : nodeCount f t g ≡ 1
 
   -- One-shot: "every flow row into a draw leaves" such a grant, "and no draw is an entry node or the target of a catch row". So a draw

@@ -1,11 +1,10 @@
 use borrow.Author.Needs.{needs}
-use Rattle.single.specs.Number.{within}
 use Rattle.profile.specs.Looks.{asks}
 use Rattle.profile.proofs.asks.Statement.{statement}
 use Rattle.profile.proofs.asks.Tie as tie
 
 returns : tie.Need-returns
-unfolding asks within
+unfolding asks
 returns c =
     simp (
       c .before .before .before .before .before .node-kind .ensures .0,
