@@ -1,5 +1,5 @@
--- What the rules ask, source by source, on the bytes of a file f with the tables t and of a sheet s with the shape x.
-use Prim.Native.Nat.{ℕ, _+_}
+-- What the rules ask, row by row, on the bytes of a file f with the tables t and of a sheet s with the shape x.
+use Prim.Native.Nat.{ℕ, zero, suc, _+_}
 use mathlib.Core.Bool.{Bool, true, false, _&&_}
 use mathlib.Core.List.{List}
 use lib.Dec.{leb, eqb}
@@ -8,19 +8,25 @@ use Rattle.effect.specs.Whole.{nothingDone, thenOf}
 use Rattle.model.specs.Stocks.{stepOf}
 use Rattle.rounds.specs.Rounds.{roundsOf}
 use Rattle.tables.specs.declared.Tables.{Tables}
+use Rattle.tables.specs.declared.Table.{Table}
+use Rattle.tables.specs.declared.Table.the-variants.{Methods, Nodes, Flow, Calls, Catches}
 use Rattle.tables.specs.Kinds.{drawKind, returnKind, throwKind}
 use Rattle.tables.specs.Fields.{entryOf, nodeMethod, nodeKind, nodeNumber, nodeCount, flowFrom, flowTo, callNode, callMethod, catchFrom, catchTo}
 use Rattle.rows.specs.Rows.{uncaughtOf}
 use Rattle.nodes.specs.Nodes.{doesIn}
 use Rattle.layout.specs.declared.Shape.{Shape}
 use Rattle.layout.specs.Layout.{exitAt, nodeAt}
-use Rattle.sheet.specs.Read.{markAt, effectAt}
+use Rattle.sheet.specs.Read.{marked, effectAt}
 use Rattle.demand.specs.declared.Demand.{Demand}
 use Rattle.demand.specs.declared.Called.{Called}
 
--- the block at the word w has mark 1
-unfoldable pub marked : List ℕ → ℕ → Bool
-marked s w = eqb (markAt s w) 1
+-- the tables whose rows ask something, in the order of the rules: 2, 3, 4, 5 and 6, 7 to 10
+abbrev pub tableAt : ℕ → Table
+tableAt zero = Methods
+tableAt (suc zero) = Flow
+tableAt (suc (suc zero)) = Catches
+tableAt (suc (suc (suc zero))) = Nodes
+tableAt (suc (suc (suc (suc i)))) = Calls
 
 -- of the block at w, mark 1 and at most e; and nothing at all
 unfoldable pub asked : ℕ → Effect → Demand

@@ -1,20 +1,18 @@
-// What the rules ask, source by source: the block that a rule leads to, and what it must be at most.
+// What the rules ask, row by row: the block that a rule leads to, and what it must be at most.
 use effect::Effect;
 use layout::Shape;
 use rounds::Rounds;
+use tables::Table;
 use tables::Tables;
 ghost use mathlib.Core.Path.{_≡_};
 ghost use Prim.Native.Nat.{_<_};
-ghost use Rattle.answer.specs.declared.Answer.the-variants.{Pass};
-ghost use Rattle.graph.specs.Judge.{judgeIn};
-ghost use Rattle.tables.specs.Fields.{nodeNumber};
-ghost use Rattle.layout.specs.Layout.{Within};
-ghost use Rattle.demand.specs.Demand.{marked, asked, unasked, entryDemand, flowDemand, catchDemand, returnDemand, throwDemand, leaveDemand, nodeDemand, calledIn, thrownIn};
+ghost use Rattle.rows.specs.Rows.{Sorted};
+ghost use Rattle.demand.specs.Demand.{tableAt, asked, unasked, entryDemand, flowDemand, catchDemand, returnDemand, throwDemand, leaveDemand, nodeDemand, calledIn, thrownIn};
 
 // The block that starts at the word `at` must have mark 1 and be at most `most`, if that is asked at all.
 pub struct Demand {
     pub asks: bool,
-    pub at: u32,
+    pub at: usize,
     pub most: Effect,
 }
 
@@ -28,21 +26,31 @@ pub struct Called {
     pub rounds: Rounds,
 }
 
-// The block at w has mark 1.
-pub fn is_marked(s: &[u8], w: usize) -> bool
-    requires { ⌜ w < 4294967296 ⌝ }
-    ensures { λ r. ⌜ r ≡ marked (now (s .entry)) w ⌝ }
+// The tables whose rows ask something, in the order of the rules.
+pub fn table_at(i: u16) -> Table
+    ensures { λ r. ⌜ r ≡ tableAt i ⌝ }
 {
-    sheet::mark(s, w) == 1
+    if i == 0 {
+        return Table::Methods;
+    }
+    if i == 1 {
+        return Table::Flow;
+    }
+    if i == 2 {
+        return Table::Catches;
+    }
+    if i == 3 {
+        return Table::Nodes;
+    }
+    Table::Calls
 }
 
 fn ask(at: usize, most: Effect) -> Demand
-    requires { ⌜ at < 4294967296 ⌝ }
     ensures { λ r. ⌜ r ≡ asked at most ⌝ }
 {
     Demand {
         asks: true,
-        at: at as u32,
+        at,
         most,
     }
 }
@@ -58,8 +66,7 @@ fn ask_nothing() -> Demand
 }
 
 // Rule 2, of method m.
-pub fn at_entry(f: &[u8], x: Shape, m: usize) -> Demand
-    requires { ⌜ Within x × (m < 65536) ⌝ }
+pub fn at_entry(f: &[u8], x: Shape, m: u16) -> Demand
     ensures { λ r. ⌜ r ≡ entryDemand (now (f .entry)) x m ⌝ }
 {
     ask(
@@ -69,8 +76,7 @@ pub fn at_entry(f: &[u8], x: Shape, m: usize) -> Demand
 }
 
 // Rule 3, of flow row k.
-pub fn along_flow(f: &[u8], t: Tables, x: Shape, s: &[u8], k: usize) -> Demand
-    requires { ⌜ Within x × (k < 65536) ⌝ }
+pub fn along_flow(f: &[u8], t: Tables, x: Shape, s: &[u8], k: u16) -> Demand
     ensures { λ r. ⌜ r ≡ flowDemand (now (f .entry)) t x (now (s .entry)) k ⌝ }
 {
     let from = tables::flow_from(f, t, k);
@@ -78,7 +84,7 @@ pub fn along_flow(f: &[u8], t: Tables, x: Shape, s: &[u8], k: usize) -> Demand
     if tables::node_kind(f, t, from) > tables::DRAW {
         return ask_nothing();
     }
-    if is_marked(s, w) {
+    if sheet::is_marked(s, w) {
         let e = effect::then(sheet::effect(s, x.types, w), nodes::step(f, t, from));
         return ask(layout::node_at(x, tables::flow_to(f, t, k)), e);
     }
@@ -86,8 +92,7 @@ pub fn along_flow(f: &[u8], t: Tables, x: Shape, s: &[u8], k: usize) -> Demand
 }
 
 // Rule 4, of catch row k.
-pub fn to_handler(f: &[u8], t: Tables, x: Shape, s: &[u8], k: usize) -> Demand
-    requires { ⌜ Within x × (k < 65536) ⌝ }
+pub fn to_handler(f: &[u8], t: Tables, x: Shape, s: &[u8], k: u16) -> Demand
     ensures { λ r. ⌜ r ≡ catchDemand (now (f .entry)) t x (now (s .entry)) k ⌝ }
 {
     let from = tables::catch_from(f, t, k);
@@ -95,7 +100,7 @@ pub fn to_handler(f: &[u8], t: Tables, x: Shape, s: &[u8], k: usize) -> Demand
     if tables::node_kind(f, t, from) != tables::THROW {
         return ask_nothing();
     }
-    if is_marked(s, w) {
+    if sheet::is_marked(s, w) {
         return ask(
             layout::node_at(x, tables::catch_to(f, t, k)),
             sheet::effect(s, x.types, w),
@@ -105,8 +110,7 @@ pub fn to_handler(f: &[u8], t: Tables, x: Shape, s: &[u8], k: usize) -> Demand
 }
 
 // Rule 5, of node n.
-fn at_return(f: &[u8], t: Tables, x: Shape, s: &[u8], n: usize) -> Demand
-    requires { ⌜ Within x × (n < 65536) ⌝ }
+fn at_return(f: &[u8], t: Tables, x: Shape, s: &[u8], n: u16) -> Demand
     ensures { λ r. ⌜ r ≡ returnDemand (now (f .entry)) t x (now (s .entry)) n ⌝ }
 {
     ask(
@@ -116,8 +120,8 @@ fn at_return(f: &[u8], t: Tables, x: Shape, s: &[u8], n: usize) -> Demand
 }
 
 // Rule 6, of node n.
-fn at_throw(f: &[u8], t: Tables, x: Shape, s: &[u8], n: usize) -> Demand
-    requires { ⌜ (judgeIn (now f) t ≡ Pass) × Within x × (n < 65536) × (nodeNumber (now f) t n < 8) ⌝ }
+fn at_throw(f: &[u8], t: Tables, x: Shape, s: &[u8], n: u16) -> Demand
+    requires { ⌜ Sorted (now f) t ⌝ }
     ensures { λ r. ⌜ r ≡ throwDemand (now (f .entry)) t x (now (s .entry)) n ⌝ }
 {
     let e = tables::node_number(f, t, n);
@@ -131,8 +135,8 @@ fn at_throw(f: &[u8], t: Tables, x: Shape, s: &[u8], n: usize) -> Demand
 }
 
 // Rule 5 or 6, of the marked node n.
-fn at_marked(f: &[u8], t: Tables, x: Shape, s: &[u8], n: usize) -> Demand
-    requires { ⌜ (judgeIn (now f) t ≡ Pass) × Within x × (n < 65536) × (n < t .nodes) ⌝ }
+fn at_marked(f: &[u8], t: Tables, x: Shape, s: &[u8], n: u16) -> Demand
+    requires { ⌜ Sorted (now f) t ⌝ }
     ensures { λ r. ⌜ r ≡ leaveDemand (now (f .entry)) t x (now (s .entry)) n ⌝ }
 {
     let kind = tables::node_kind(f, t, n);
@@ -146,33 +150,32 @@ fn at_marked(f: &[u8], t: Tables, x: Shape, s: &[u8], n: usize) -> Demand
 }
 
 // Rule 5 or 6, of node n.
-pub fn at_node(f: &[u8], t: Tables, x: Shape, s: &[u8], n: usize) -> Demand
-    requires { ⌜ (judgeIn (now f) t ≡ Pass) × Within x × (n < 65536) × (n < t .nodes) ⌝ }
+pub fn at_node(f: &[u8], t: Tables, x: Shape, s: &[u8], n: u16) -> Demand
+    requires { ⌜ Sorted (now f) t ⌝ }
     ensures { λ r. ⌜ r ≡ nodeDemand (now (f .entry)) t x (now (s .entry)) n ⌝ }
 {
-    if is_marked(s, layout::node_at(x, n)) {
+    if sheet::is_marked(s, layout::node_at(x, n)) {
         return at_marked(f, t, x, s, n);
     }
     ask_nothing()
 }
 
 // Rules 7 to 10, of call row k.
-pub fn of_call(f: &[u8], t: Tables, x: Shape, s: &[u8], k: usize) -> Called
-    requires { ⌜ Within x × (k < 65536) ⌝ }
+pub fn of_call(f: &[u8], t: Tables, x: Shape, s: &[u8], k: u16) -> Called
     ensures { λ r. ⌜ r ≡ calledIn (now (f .entry)) t x (now (s .entry)) k ⌝ }
 {
     let node = tables::call_node(f, t, k);
     let method = tables::call_method(f, t, k);
     let w = layout::node_at(x, node);
     let v = layout::exit_at(x, method, 0);
-    let marked = is_marked(s, w);
-    let returns = is_marked(s, v);
+    let marked = sheet::is_marked(s, w);
+    let returns = sheet::is_marked(s, v);
     let call = sheet::effect(s, x.types, w);
     let exit = sheet::effect(s, x.types, v);
-    let repeats = tables::node_count(f, t, node);
+    let repeats = tables::node_count(f, t, node) as usize;
     Called {
-        node: node as u16,
-        method: method as u16,
+        node,
+        method,
         marked,
         returns,
         rounds: rounds::of_call(call, marked & returns, exit, repeats),
@@ -180,14 +183,13 @@ pub fn of_call(f: &[u8], t: Tables, x: Shape, s: &[u8], k: usize) -> Called
 }
 
 // Rules 9 and 10: what is left where the exception e leaves a round of the call.
-pub fn thrown(s: &[u8], x: Shape, c: Called, e: usize) -> Effect
-    requires { ⌜ Within x × (e < 65535) ⌝ }
+pub fn thrown(s: &[u8], x: Shape, c: Called, e: u16) -> Effect
+    requires { ⌜ e < 8 ⌝ }
     ensures { λ r. ⌜ r ≡ thrownIn x (now (s .entry)) c e ⌝ }
 {
     let r = c.rounds;
-    let method = c.method as usize;
     effect::then(
         r.earlier,
-        sheet::effect(s, x.types, layout::exit_at(x, method, 1 + e)),
+        sheet::effect(s, x.types, layout::exit_at(x, c.method, 1 + e)),
     )
 }

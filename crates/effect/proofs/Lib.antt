@@ -11,3 +11,4 @@ pub mod Coordinate
 pub mod Types
 pub mod Means
 pub mod Compute
+pub mod Fields

@@ -7,15 +7,15 @@ use lib.Dec.{ltb, leb, eqb}
 use lib.ListN.{getD}
 use borrow.Author.Tests.{leb-true, eqb-true, not-false}
 use native.Mathlib.Omega.{arith}
-use Rattle.words.proofs.Lowest.{none-found, lowest-same}
+use Rattle.words.proofs.Lowest.{none-found, lowest-same, is-lowest}
 use Rattle.layout.specs.declared.Shape.{Shape}
-use Rattle.layout.specs.Layout.{stockSize, effectSize, isStock, blockSize, blockAt}
+use Rattle.layout.specs.Layout.{stockSize, effectSize, isStock, blockCount, blockSize, blockAt}
 use Rattle.layout.proofs.Blocks.{size-pos}
 use Rattle.effect.specs.declared.Stock.{Stock}
 use Rattle.effect.specs.Whole.{normalOf}
 use Rattle.effect.proofs.Six.{all-e}
 use Rattle.sheet.specs.Read.{sheetWord, markAt, stockAt, effectAt}
-use Rattle.formed.specs.Ill.{notZero, someWord, countsFit, fits, illBy, illBlock}
+use Rattle.formed.specs.Ill.{notZero, someWord, countsFit, fits, illBy, illBlock, firstIll}
 use Rattle.formed.proofs.Scan.{some-none, zero-there}
 use Rattle.sheet.proofs.Same.{SameWords, mark-same, stock-same, effect-same}
 
@@ -109,3 +109,7 @@ ill-same s r x b h =
     let a = some-same s r (blockAt x b) (blockSize x b) h in
     let c = fits-same s r (x .types) (blockAt x b) (isStock x b) h in
     λ i. illBy (m i) (a i) (c i)
+
+-- every block of a sheet with no ill-formed one
+pub block-formed : (x : Shape) (s : List ℕ) → firstIll s x ≡ blockCount x → (b : ℕ) → b < blockCount x → Formed s x b
+block-formed x s whole b l = formed s x b (is-lowest (illBlock s x) (blockCount x) .before b (omega (arith, whole)))

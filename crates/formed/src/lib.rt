@@ -2,13 +2,12 @@
 use effect::Stock;
 use layout::Shape;
 ghost use mathlib.Core.Path.{_≡_};
-ghost use Prim.Native.Nat.{_<_, _≤_};
-ghost use Rattle.layout.specs.Layout.{Within, blockCount};
+ghost use Prim.Native.Nat.{_<_};
 ghost use Rattle.formed.specs.Ill.{someWord, countsFit, fits, illBlock, firstIll};
 
 // One of the n words from w on is not 0.
 fn some_word(s: &[u8], w: usize, n: usize) -> bool
-    requires { ⌜ (w < 4294967296) × (n ≤ 25) ⌝ }
+    requires { ⌜ (w < 72057594037927936) × (n < 1048576) ⌝ }
     ensures { λ r. ⌜ r ≡ someWord (now (s .entry)) w n ⌝ }
 {
     let mut k = 0;
@@ -31,8 +30,7 @@ fn counts_fit(x: Stock) -> bool
 }
 
 // What a marked block holds may stand in it.
-fn content_fits(s: &[u8], t: usize, w: usize, stock: bool) -> bool
-    requires { ⌜ w < 4294967296 ⌝ }
+fn content_fits(s: &[u8], t: u16, w: usize, stock: bool) -> bool
     ensures { λ r. ⌜ r ≡ fits (now (s .entry)) t w stock ⌝ }
 {
     if stock {
@@ -42,8 +40,7 @@ fn content_fits(s: &[u8], t: usize, w: usize, stock: bool) -> bool
 }
 
 // Block b is ill formed.
-pub fn block_ill(s: &[u8], x: Shape, b: usize) -> bool
-    requires { ⌜ Within x × (b < blockCount x) ⌝ }
+pub fn block_ill(s: &[u8], x: Shape, b: u32) -> bool
     ensures { λ r. ⌜ r ≡ illBlock (now (s .entry)) x b ⌝ }
 {
     let w = layout::block_at(x, b);
@@ -58,8 +55,7 @@ pub fn block_ill(s: &[u8], x: Shape, b: usize) -> bool
 }
 
 // The lowest ill-formed block, or the number of blocks.
-pub fn first_ill(s: &[u8], x: Shape) -> usize
-    requires { ⌜ Within x ⌝ }
+pub fn first_ill(s: &[u8], x: Shape) -> u32
     ensures { λ r. ⌜ r ≡ firstIll (now (s .entry)) x ⌝ }
 {
     let n = layout::block_count(x);

@@ -2,3 +2,5 @@ pub mod Passed
 pub mod Meaning
 pub mod Whole
 pub mod Sorts
+pub mod Rises
+pub mod Caught

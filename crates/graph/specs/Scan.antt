@@ -1,26 +1,16 @@
--- The six tables, and the trailer's counts as one more, seen alike.
+-- What is refused of the six tables, and of the trailer's counts as one more.
 use Prim.Native.Nat.{ℕ}
 use mathlib.Core.Bool.{Bool}
 use mathlib.Core.List.{List}
 use Rattle.answer.specs.declared.Answer.{Answer}
 use Rattle.answer.specs.declared.Answer.the-variants.{BadCount, BadEntry, BadFlow, BadCall, BadCatch, BadOpening}
 use Rattle.tables.specs.declared.Tables.{Tables}
-use Rattle.graph.specs.declared.Table.{Table}
-use Rattle.graph.specs.declared.Table.the-variants.{Trailer, Methods, Nodes, Flow, Calls, Catches, Opening}
+use Rattle.tables.specs.declared.Table.{Table}
+use Rattle.tables.specs.declared.Table.the-variants.{Trailer, Methods, Nodes, Flow, Calls, Catches, Opening}
 use Rattle.graph.specs.Places.{badNodeAt}
 use Rattle.refuse.specs.Bad.{countBad, entryBad, nodeBad, flowBad, callBad, catchBad, openingBad}
 
--- how many rows the table has
-abbrev pub rowsOf : Tables → Table → ℕ
-rowsOf t Trailer = 6
-rowsOf t Methods = t .methods
-rowsOf t Nodes = t .nodes
-rowsOf t Flow = t .flows
-rowsOf t Calls = t .calls
-rowsOf t Catches = t .catches
-rowsOf t Opening = t .types
-
--- which of its rows are refused
+-- which rows of the table are refused
 abbrev pub rowBad : List ℕ → Tables → Table → ℕ → Bool
 rowBad f t Trailer = countBad f
 rowBad f t Methods = entryBad f t

@@ -1,14 +1,15 @@
 // The judgement of a graph file: answers 1 to 9.
 use answer::Answer;
 use layout::Shape;
+use tables::Table;
 use tables::Tables;
 ghost use mathlib.Core.Path.{_≡_};
-ghost use Prim.Native.Nat.{_<_};
 ghost use Rattle.words.specs.Lowest.{lowest};
+ghost use Rattle.tables.specs.Rows.{rowsOf};
 ghost use Rattle.layout.specs.Layout.{Within};
 ghost use Rattle.graph.specs.Places.{badNodeAt, overdrawnAt, unfitAt};
 ghost use Rattle.graph.specs.Judge.{refused, judgeRows, judgeIn};
-ghost use Rattle.graph.specs.Scan.{rowsOf, rowBad, badRow};
+ghost use Rattle.graph.specs.Scan.{rowBad, badRow};
 ghost use Rattle.graph.specs.Judgement.{shapeFor, judgedOf};
 ghost use Rattle.graph.specs.Meaning.{Judges};
 
@@ -38,33 +39,7 @@ pub fn unfit_at(f: &[u8], t: Tables, n: u16) -> Answer
     Answer::Unfit(n)
 }
 
-// The six tables, and the trailer's counts as one more.
-pub enum Table {
-    Trailer,
-    Methods,
-    Nodes,
-    Flow,
-    Calls,
-    Catches,
-    Opening,
-}
-
-fn rows(t: Tables, table: Table) -> usize
-    ensures { λ r. ⌜ (r ≡ rowsOf t table) × (r < 65536) ⌝ }
-{
-    match table {
-        Table::Trailer => 6,
-        Table::Methods => t.methods as usize,
-        Table::Nodes => t.nodes as usize,
-        Table::Flow => t.flows as usize,
-        Table::Calls => t.calls as usize,
-        Table::Catches => t.catches as usize,
-        Table::Opening => t.types as usize,
-    }
-}
-
-fn row_bad(f: &[u8], t: Tables, table: Table, k: usize) -> bool
-    requires { ⌜ (k < 65536) × (k < rowsOf t table) ⌝ }
+fn row_bad(f: &[u8], t: Tables, table: Table, k: u16) -> bool
     ensures { λ r. ⌜ r ≡ rowBad (now (f .entry)) t table k ⌝ }
 {
     match table {
@@ -79,10 +54,10 @@ fn row_bad(f: &[u8], t: Tables, table: Table, k: usize) -> bool
 }
 
 // The lowest row of the table that is refused, or how many rows there are.
-fn lowest_bad(f: &[u8], t: Tables, table: Table) -> usize
-    ensures { λ r. ⌜ (r ≡ lowest (rowBad (now (f .entry)) t table) (rowsOf t table)) × (r < 65536) ⌝ }
+fn lowest_bad(f: &[u8], t: Tables, table: Table) -> u16
+    ensures { λ r. ⌜ r ≡ lowest (rowBad (now (f .entry)) t table) (rowsOf t table) ⌝ }
 {
-    let n = rows(t, table);
+    let n = tables::rows(t, table);
     let mut k = 0;
     while k < n {
         if row_bad(f, t, table, k) {
@@ -113,8 +88,8 @@ fn refused(f: &[u8], t: Tables, table: Table, next: Answer) -> Answer
     ensures { λ r. ⌜ r ≡ refused (rowBad (now (f .entry)) t table) (rowsOf t table) (badRow (now (f .entry)) t table) next ⌝ }
 {
     let k = lowest_bad(f, t, table);
-    if k < rows(t, table) {
-        return bad_row(f, t, table, k as u16);
+    if k < tables::rows(t, table) {
+        return bad_row(f, t, table, k);
     }
     next
 }
@@ -149,9 +124,9 @@ fn shape(a: Answer, t: Tables) -> Shape
 {
     if answer::number(a) == 0 {
         return Shape {
-            methods: t.methods as usize,
-            nodes: t.nodes as usize,
-            types: t.types as usize,
+            methods: t.methods,
+            nodes: t.nodes,
+            types: t.types,
         };
     }
     Shape {

@@ -31,9 +31,9 @@ use Rattle.nodes.specs.Nodes.{openingIn}
 use Rattle.nodes.specs.Program.{Brings, Overdrawing}
 use Rattle.nodes.proofs.Setting.{setting}
 use Rattle.layout.specs.Layout.{nodeAt}
-use Rattle.demand.specs.Demand.{marked}
+use Rattle.sheet.specs.Read.{marked}
+use Rattle.sheet.proofs.Marked.{true-mark}
 use Rattle.rules.specs.Sheet.{sheet, WellFormed, Holds, IsReached}
-use Rattle.rules.proofs.Blocks.{true-mark}
 use Rattle.permit.specs.Check.{checkOf}
 use Rattle.permit.specs.Meaning.{IsCovered, Checks, refused, wrong-length, ill-formed, broken, overdrawn, accepted}
 use Rattle.permit.proofs.Meaning.{checks, accepts, safe}

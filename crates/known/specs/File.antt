@@ -2,7 +2,7 @@
 use Prim.Native.Nat.{ℕ, _+_, _*_}
 use mathlib.Core.List.{List, [], _∷_, _++_}
 use lib.ListN.{length}
-use Rattle.sheet.specs.Write.{wordBytes}
+use Rattle.words.specs.Write.{wordBytes}
 
 -- "6 bytes: method, kind, number, count (one byte each), rights"
 pub data Node : Type 0 where

@@ -8,8 +8,7 @@ use Rattle.tables.specs.declared.Tables.{Tables}
 use Rattle.tables.specs.Fields.{nodeMethod}
 use Rattle.layout.specs.declared.Shape.{Shape}
 use Rattle.layout.specs.Layout.{methodAt, nodeAt}
-use Rattle.sheet.specs.Read.{stockAt, effectAt}
-use Rattle.demand.specs.Demand.{marked}
+use Rattle.sheet.specs.Read.{stockAt, effectAt, marked}
 
 -- "A node is reached if its mark and its method's called mark are 1"
 abbrev pub isReached : List ℕ → Tables → Shape → List ℕ → ℕ → Bool

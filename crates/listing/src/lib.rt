@@ -3,23 +3,19 @@ use effect::Stock;
 use layout::Shape;
 use tables::Tables;
 ghost use mathlib.Core.Path.{_≡_};
-ghost use Prim.Native.Nat.{_<_};
-ghost use Rattle.layout.specs.Layout.{Within};
 ghost use Rattle.listing.specs.Node.{isReached, nodeStock};
 
 // The sheet calls node n reached: the node is marked, and so is its method.
-pub fn reached(f: &[u8], t: Tables, x: Shape, s: &[u8], n: usize) -> bool
-    requires { ⌜ Within x × (n < 65536) ⌝ }
+pub fn reached(f: &[u8], t: Tables, x: Shape, s: &[u8], n: u16) -> bool
     ensures { λ r. ⌜ r ≡ isReached (now (f .entry)) t x (now (s .entry)) n ⌝ }
 {
     let w = layout::node_at(x, n);
     let v = layout::method_at(x, tables::node_method(f, t, n));
-    demand::is_marked(s, w) & demand::is_marked(s, v)
+    sheet::is_marked(s, w) & sheet::is_marked(s, v)
 }
 
 // The stock of node n: its effect applied to the stock of its method. Of a node that is not reached it says nothing.
-pub fn stock(f: &[u8], t: Tables, x: Shape, s: &[u8], n: usize) -> Stock
-    requires { ⌜ Within x × (n < 65536) ⌝ }
+pub fn stock(f: &[u8], t: Tables, x: Shape, s: &[u8], n: u16) -> Stock
     ensures { λ r. ⌜ r ≡ nodeStock (now (f .entry)) t x (now (s .entry)) n ⌝ }
 {
     let w = layout::node_at(x, n);

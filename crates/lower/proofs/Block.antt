@@ -19,22 +19,22 @@ use Rattle.graph.proofs.Whole.{limits}
 use Rattle.nodes.proofs.Setting.{setting}
 use Rattle.layout.specs.Layout.{stockSize, effectSize, methodAt, exitAt, nodeAt, sheetBytes, blockCount, isStock, blockAt}
 use Rattle.layout.proofs.Blocks.{stock-size, effect-size, size-pos, block-method, block-exit, block-node}
-use Rattle.sheet.specs.Read.{markAt, stockAt, effectAt}
-use Rattle.sheet.specs.Write.{splice, stockWord, effectWord, stockBytes, effectBytes, blanked}
-use Rattle.sheet.proofs.Back.{stock-marked, stock-back, effect-marked, effect-back, blank-length, blank-word}
+use Rattle.sheet.specs.Read.{markAt, stockAt, effectAt, marked}
+use Rattle.words.specs.Write.{splice}
+use Rattle.sheet.specs.Write.{stockWord, effectWord, stockBytes, effectBytes, blanked}
+use Rattle.sheet.proofs.Back.{stock-marked, stock-back, effect-marked, effect-back, blank-length, blank-word, stock-words, effect-words}
 use Rattle.sheet.proofs.Potential.{block-fits}
 use Rattle.formed.specs.Ill.{illBlock}
 use Rattle.formed.proofs.Judged.{blank-formed, stock-formed, effect-formed}
-use Rattle.demand.specs.Demand.{marked}
-use Rattle.rules.specs.Tests.{effectUnder, stockUnder}
-use Rattle.rules.specs.Sheet.{sheetIn}
-use Rattle.rules.proofs.Blocks.{mark-true}
+use Rattle.sheet.specs.Under.{effectUnder, stockUnder}
+use Rattle.formed.specs.Sheet.{sheetIn}
+use Rattle.sheet.proofs.Marked.{mark-true}
 use Rattle.lower.specs.Lower.{effectTo, stockTo}
 use Rattle.lower.proofs.Good.{Stands, StockStands, rankOf, height, Good, Done}
 use Rattle.lower.proofs.Numbers.{shape, method-stock, node-effect, exit-effect}
 use Rattle.lower.proofs.Stands.{both-stands, lower-stands, block-stands, stock-block-stands}
-use Rattle.lower.proofs.Rank.{rank-effect, rank-stock, rank-unmarked, effect-small, stock-small}
-use Rattle.lower.proofs.Bytes.{blank-bytes, stock-words, effect-words}
+use Rattle.lower.proofs.Rank.{rank-effect, rank-stock, rank-unmarked, effect-less, stock-less}
+use Rattle.words.proofs.Bytes.{blank-bytes}
 use Rattle.lower.proofs.Hits.{EffectHit, StockHit, both-hit, lower-hit, effect-said, stock-said, attained-hits}
 use Rattle.lower.proofs.Put.{put-good, put-falls}
 
@@ -83,7 +83,7 @@ module _ (f : List ℕ) (pass : judgeOf f ≡ Pass) where
               effect-put (bothOf said e) (both-stands types said e (block-stands (shape f) s (G .whole) b l mark q) st)
               (both-hit f pass b said e (effect-said f pass s b q .0 (attained-hits f pass s (G .attained) b) mark) h)
               (omega (arith, rank-effect (shape f) b s q mark, both-falls said e (not-both (marked s w) _ u p)))
-          go false p u = effect-put e st h (omega (arith, rank-unmarked (shape f) b s p, effect-small types e (st .fits)))
+          go false p u = effect-put e st h (omega (arith, rank-unmarked (shape f) b s p, effect-less types e (st .fits)))
 
     -- of a method
     module _ (q : isStock (shape f) b ≡ true) where
@@ -113,7 +113,7 @@ module _ (f : List ℕ) (pass : judgeOf f ≡ Pass) where
               stock-put (lowerOf held h) (lower-stands types held h (stock-block-stands (shape f) s (G .whole) b l mark q) st)
               (lower-hit f pass b held h (stock-said f pass s b q .0 (attained-hits f pass s (G .attained) b) mark) hit)
               (omega (arith, rank-stock (shape f) b s q mark, lower-falls held h (not-both (marked s w) _ u p)))
-          go false p u = stock-put h st hit (omega (arith, rank-unmarked (shape f) b s p, stock-small types h (st .fits)))
+          go false p u = stock-put h st hit (omega (arith, rank-unmarked (shape f) b s p, stock-less types h (st .fits)))
 
   -- the block of a node, of an exit, of a method
   module _ (s : List ℕ) (G : Good f pass s) where

@@ -16,12 +16,11 @@ use Rattle.graph.specs.Judgement.{shapeOf}
 use Rattle.nodes.proofs.Setting.{setting}
 use Rattle.layout.specs.declared.Shape.{Shape}
 use Rattle.layout.specs.Layout.{sheetBytes, blockCount, blockAt, isStock}
-use Rattle.sheet.specs.Read.{stockAt, effectAt}
+use Rattle.sheet.specs.Read.{stockAt, effectAt, marked}
 use Rattle.sheet.proofs.Back.{EffectFits, StockFits}
 use Rattle.sheet.proofs.Potential.{potential}
 use Rattle.formed.specs.Ill.{countsFit, firstIll}
-use Rattle.demand.specs.Demand.{marked}
-use Rattle.rules.specs.Sheet.{sheetIn}
+use Rattle.formed.specs.Sheet.{sheetIn}
 
 -- what may stand in a marked block of a sheet of t types
 pub record Stands (t : ℕ) (e : Effect) : Type 0 where

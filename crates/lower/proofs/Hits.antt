@@ -17,7 +17,7 @@ use Rattle.layout.specs.Layout.{stockSize, effectSize, methodAt, exitAt, nodeAt
 use Rattle.layout.proofs.Blocks.{size-pos, block-method, block-exit, block-node}
 use Rattle.sheet.specs.Read.{markAt, stockAt, effectAt}
 use Rattle.sheet.proofs.Same.{SameWords, mark-same, stock-same, effect-same}
-use Rattle.rules.specs.Sheet.{sheetIn}
+use Rattle.formed.specs.Sheet.{sheetIn}
 use Rattle.lower.proofs.Numbers.{shape, method-stock, node-effect, exit-effect}
 
 module _ (f : List ℕ) (pass : judgeOf f ≡ Pass) where

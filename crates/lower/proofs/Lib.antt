@@ -2,7 +2,6 @@ pub mod Good
 pub mod Numbers
 pub mod Stands
 pub mod Rank
-pub mod Bytes
 pub mod Hits
 pub mod Put
 pub mod Block

@@ -9,8 +9,8 @@ use Rattle.words.proofs.Lowest.{lowest-none, is-lowest}
 use Rattle.answer.specs.declared.Answer.the-variants.{Pass}
 use Rattle.graph.specs.Judge.{judgeOf}
 use Rattle.layout.specs.Layout.{blockCount, blockSize, blockAt}
-use Rattle.sheet.specs.Write.{splice, bytesOf}
-use Rattle.sheet.proofs.Splice.{written-length}
+use Rattle.words.specs.Write.{splice, bytesOf}
+use Rattle.words.proofs.Splice.{written-length}
 use Rattle.sheet.proofs.Same.{SameWords}
 use Rattle.sheet.proofs.Potential.{block-fits, other-block, sheet-falls}
 use Rattle.formed.specs.Ill.{illBlock}
@@ -18,7 +18,7 @@ use Rattle.formed.proofs.Judged.{ill-same}
 use Rattle.lower.proofs.Good.{rankOf, height, Good}
 use Rattle.lower.proofs.Numbers.{shape}
 use Rattle.lower.proofs.Rank.{rank-same}
-use Rattle.lower.proofs.Bytes.{splice-bytes, words-bytes}
+use Rattle.words.proofs.Bytes.{splice-bytes, words-bytes}
 use Rattle.lower.proofs.Hits.{BlockHit, hit-same, attained-hits, hits-attained}
 
 -- what holds of the block b, and of the others, holds of all

@@ -1,9 +1,10 @@
 -- What may stand in a block: the operations keep to it, and so do the file's steps and opening stock and the blocks of a
 -- well-formed sheet.
-use Prim.Native.Nat.{ℕ, zero, suc, _+_, _-_, _*_, _<_}
-use mathlib.Core.Path.{_≡_, refl, sym, subst}
+use Prim.Native.Nat.{ℕ, zero, suc, _+_, _-_, _*_, _≤_, _<_}
+use mathlib.Core.Path.{_≡_, refl, sym, subst, _∙_}
 use mathlib.Core.Bool.{Bool, true, false}
 use mathlib.Core.List.{List}
+use lib.ListN.{getD}
 use lib.Dec.{leb}
 use borrow.Author.Tests.{le-leb}
 use native.Mathlib.Decide.{ℕ-discrete, decLt}
@@ -11,52 +12,84 @@ use native.Mathlib.Omega.{arith}
 use Rattle.words.proofs.Read.{word-lt}
 use Rattle.effect.specs.declared.Stock.{Stock}
 use Rattle.effect.specs.declared.Effect.{Effect}
-use Rattle.effect.specs.Six.{heldAt, oneAt}
+use Rattle.effect.specs.Six.{six, oneAt}
 use Rattle.effect.specs.Whole.{normalOf, nothingDone, drawOf, grantOf, applyOf, thenOf, bothOf, lowerOf}
 use Rattle.effect.proofs.Six.{all-i}
-use Rattle.effect.proofs.Types.{EffectOf, StockOf, stock-of, nothing-of, then-of, both-of, apply-of, lower-of, draw-of, grant-of}
-use Rattle.effect.proofs.Laws.{Fits, nothing-normal, draw-normal, grant-normal, then-normal, both-normal, normal-at}
+use Rattle.effect.proofs.Types.{EffectOf, StockOf, normal-small, nothing-of, then-of, both-of, apply-of, lower-of, draw-of, grant-of}
+use Rattle.effect.proofs.Laws.{nothing-normal, draw-normal, grant-normal, then-normal, both-normal, normal-at}
+use Rattle.effect.proofs.Fields.{idle-fields, fields-idle}
 use Rattle.model.specs.Stocks.{permits, Does, plain, stepOf}
 use Rattle.model.specs.Rounds.{lowest-rounds, whole-rounds, earlier-rounds}
 use Rattle.answer.specs.declared.Answer.the-variants.{Pass}
 use Rattle.tables.specs.Trailer.{tablesOf}
 use Rattle.tables.specs.Kinds.{grantKind, drawKind}
-use Rattle.tables.specs.Fields.{nodeKind, nodeRights, openingRights}
+use Rattle.tables.specs.Fields.{nodeKind, nodeRights, openingRights, openingCount}
 use Rattle.refuse.proofs.Fit.{node-fit, opening-fit}
 use Rattle.graph.specs.Judge.{judgeOf}
 use Rattle.graph.proofs.Passed.{judged}
-use Rattle.nodes.specs.Nodes.{doesIn, openingAt, openingIn}
-use Rattle.nodes.proofs.Cases.{does-outside, does-grant, does-draw, does-plain, opening-some, opening-none}
+use Rattle.nodes.specs.Nodes.{doesIn, forType, openingIn}
+use Rattle.nodes.proofs.Cases.{does-outside, does-grant, does-draw, does-plain, for-some, for-none}
 use Rattle.layout.specs.declared.Shape.{Shape}
 use Rattle.layout.specs.Layout.{methodAt, exitAt, nodeAt, blockCount, blockAt, isStock}
 use Rattle.layout.proofs.Blocks.{block-method, block-exit, block-node}
 use Rattle.sheet.specs.Read.{markAt, stockAt, effectAt}
-use Rattle.sheet.proofs.Back.{normal-fits, stock-read, effect-read}
+use Rattle.sheet.proofs.Back.{FieldFits, six-at, stock-read, effect-read}
 use Rattle.formed.specs.Ill.{countsFit, firstIll}
-use Rattle.formed.proofs.Judged.{counts-le}
-use Rattle.rules.proofs.Blocks.{block-formed}
+use Rattle.formed.proofs.Judged.{counts-le, block-formed}
 use Rattle.lower.proofs.Good.{Stands, StockStands}
 use Rattle.lower.proofs.Numbers.{method-stock, node-effect, exit-effect}
 
 -- A normal effect of t types stands, and a stock of t types.
 module _ (t : ℕ) (e : Effect) where
   stands : normalOf e ≡ true → EffectOf t e → Stands t e
-  stands n p = record { normal = n; fits = record { six = p .six; fit = λ k l. normal-fits (oneAt e k) (normal-at e n k l) (p .words k l); rest = p .rest } }
+  stands n p =
+      record {
+        normal = n;
+        fits = record {
+          six = p .six;
+          keepin = record { words = λ k l. small k l .0; rest = λ k u l. idle-fields e k (p .rest k u l) .keepin };
+          keepmax = record { words = p .words; rest = λ k u l. idle-fields e k (p .rest k u l) .keepmax };
+          cap = record { words = λ k l. small k l .1; rest = λ k u l. idle-fields e k (p .rest k u l) .cap };
+          drop = record { words = λ k l. small k l .2; rest = λ k u l. idle-fields e k (p .rest k u l) .drop };
+        };
+      }
+    where
+      small : (k : ℕ) → k < 6 → (getD (e .keepin) k 0 < 65536) × (getD (e .cap) k 0 < 65536) × (getD (e .drop) k 0 < 65536)
+      small k l = normal-small (oneAt e k) (normal-at e n k l) (p .words k l)
 
   types : Stands t e → EffectOf t e
-  types p = record { six = p .fits .six; words = λ k l. p .fits .fit k l .keepmax-fits; rest = p .fits .rest }
+  types p =
+      let f = p .fits in
+      record {
+        six = f .six;
+        words = f .keepmax .words;
+        rest = λ k u l. fields-idle e k (record { keepin = f .keepin .rest k u l; keepmax = f .keepmax .rest k u l; cap = f .cap .rest k u l; drop = f .drop .rest k u l });
+      }
 
 module _ (t : ℕ) (h : Stock) where
-  stock-stands : StockOf t h → StockStands t h
+  counts-fit : ((k : ℕ) → k < 6 → getD (h .counts) k 0 ≤ 255) → countsFit h ≡ true
   unfolding countsFit
+  counts-fit p = all-i (λ (k : ℕ). leb (getD (h .counts) k 0) 255) (λ k l. le-leb (getD (h .counts) k 0) 255 (p k l))
+
+  stock-stands : StockOf t h → StockStands t h
   stock-stands p =
       record {
-        counts = all-i (λ (k : ℕ). leb (heldAt h k .count) 255) (λ k l. le-leb (heldAt h k .count) 255 (p .fit k l .1));
-        fits = record { six = p .six; fit = λ k l. record { rights-fit = p .fit k l .0; count-fits = omega (arith, p .fit k l .1) }; rest = p .rest };
+        counts = counts-fit (λ k l. p .fit k l .1);
+        fits = record {
+          six = p .six;
+          rights = record { words = λ k l. p .fit k l .0; rest = λ k u l i. p .rest k u l i .rights };
+          counts = record { words = λ k l. omega (arith, p .fit k l .1); rest = λ k u l i. p .rest k u l i .count };
+        };
       }
 
   stock-types : StockStands t h → StockOf t h
-  stock-types p = record { six = p .fits .six; fit = λ k l. (p .fits .fit k l .rights-fit, counts-le h (p .counts) k l); rest = p .fits .rest }
+  stock-types p =
+      let f = p .fits in
+      record {
+        six = f .six;
+        fit = λ k l. (f .rights .words k l, counts-le h (p .counts) k l);
+        rest = λ k u l i. record { rights = f .rights .rest k u l i; count = f .counts .rest k u l i };
+      }
 
 pub nothing-stands : (t : ℕ) → Stands t nothingDone
 nothing-stands t = stands t nothingDone nothing-normal (nothing-of t)
@@ -122,15 +155,38 @@ module _ (f : List ℕ) (pass : judgeOf f ≡ Pass) where
       here : (d : Does) → doesIn f (tablesOf f) n ≡ d → Stands (tablesOf f .types) (stepOf d) → Stands (tablesOf f .types) (stepOf (doesIn f (tablesOf f) n))
       here d e h = subst (λ (c : Does). Stands (tablesOf f .types) (stepOf c)) (sym e) h
 
+  at-most-word : {v : ℕ} → v < 65536 → v ≤ 65535
+  at-most-word h = omega arith
+
+  -- a field of the opening stock: at most what its rows have, and 0 of a type that the file does not have
+  opening-at-most : (row : ℕ → ℕ) (m : ℕ) → ((k : ℕ) → k < tablesOf f .types → row k ≤ m) → (k : ℕ) → k < 6 → getD (six (forType (tablesOf f) row)) k 0 ≤ m
+  opening-at-most row m h k l = rw (six-at (forType (tablesOf f) row) k l) (elim (decLt k (tablesOf f .types)) [
+    | yes u ↦ rw (for-some (tablesOf f) row k u) (h k u)
+    | no u ↦ rw (for-none (tablesOf f) row k (omega arith)) (omega arith)
+  ])
+
+  opening-fits : (row : ℕ → ℕ) → ((k : ℕ) → k < tablesOf f .types → row k ≤ 65535) → FieldFits (tablesOf f .types) 0 (six (forType (tablesOf f) row))
+  opening-fits row h =
+      record {
+        words = λ k l. omega (arith, opening-at-most row 65535 h k l);
+        rest = λ k u l. six-at (forType (tablesOf f) row) k l ∙ for-none (tablesOf f) row k u;
+      }
+
+  opening-count : (k : ℕ) → k < tablesOf f .types → openingCount f (tablesOf f) k ≤ 255
+  opening-count k h = opening-fit f (tablesOf f) k (judged f (tablesOf f) pass .opening k h)
+
   pub opening-stands : StockStands (tablesOf f .types) (openingIn f (tablesOf f))
   unfolding openingIn openingRights
-  opening-stands = stock-stands (tablesOf f .types) (openingIn f (tablesOf f)) (stock-of (tablesOf f .types) (openingAt f (tablesOf f)) (λ k l. fit k) (λ k u l. sym (opening-none f (tablesOf f) k u)))
-    where
-      fit : (k : ℕ) → Fits (openingAt f (tablesOf f) k)
-      fit k = elim (decLt k (tablesOf f .types)) [
-        | yes h ↦ subst Fits (opening-some f (tablesOf f) k _ _ h refl refl) (word-lt f _, opening-fit f (tablesOf f) k (judged f (tablesOf f) pass .opening k h))
-        | no h ↦ subst Fits (opening-none f (tablesOf f) k (omega arith)) (omega arith, omega arith)
-      ]
+  opening-stands =
+      let t = tablesOf f in
+      record {
+        counts = counts-fit (t .types) (openingIn f t) (opening-at-most (openingCount f t) 255 opening-count);
+        fits = record {
+          six = refl;
+          rights = opening-fits (openingRights f t) (λ k h. at-most-word (word-lt f _));
+          counts = opening-fits (openingCount f t) (λ k h. omega (arith, opening-count k h));
+        };
+      }
 
 -- what a marked block says, in a sheet with no ill-formed block
 module _ (x : Shape) (s : List ℕ) (whole : firstIll s x ≡ blockCount x) where

@@ -6,10 +6,10 @@ use Rattle.effect.specs.declared.Stock.{Stock}
 use Rattle.effect.specs.declared.Effect.{Effect}
 use Rattle.effect.specs.Whole.{bothOf, lowerOf}
 use Rattle.layout.specs.declared.Shape.{Shape}
-use Rattle.sheet.specs.Read.{stockAt, effectAt}
-use Rattle.sheet.specs.Write.{splice, stockBytes, effectBytes}
-use Rattle.demand.specs.Demand.{marked}
-use Rattle.rules.specs.Tests.{effectUnder, stockUnder}
+use Rattle.sheet.specs.Read.{stockAt, effectAt, marked}
+use Rattle.words.specs.Write.{splice}
+use Rattle.sheet.specs.Write.{stockBytes, effectBytes}
+use Rattle.sheet.specs.Under.{effectUnder, stockUnder}
 
 -- "mark 1 and at most" e: a block that is so stays; another is marked, and is lowered to e from what it said
 unfoldable pub effectTo : List ℕ → Shape → ℕ → Effect → List ℕ

@@ -4,18 +4,18 @@ use effect::Stock;
 use layout::Shape;
 ghost use mathlib.Core.Path.{_≡_};
 ghost use mathlib.Core.Bool.{not};
-ghost use Prim.Native.Nat.{_+_, _*_, _<_, _≤_};
+ghost use Prim.Native.Nat.{_+_, _*_, _≤_};
 ghost use lib.ListN.{length};
-ghost use Rattle.layout.specs.Layout.{Within, stockSize, effectSize};
-ghost use Rattle.rules.specs.Tests.{effectUnder, stockUnder};
+ghost use Rattle.layout.specs.Layout.{stockSize, effectSize};
+ghost use Rattle.sheet.specs.Under.{effectUnder, stockUnder};
 ghost use Rattle.lower.specs.Lower.{effectTo, stockTo};
 
 // The block at w gets mark 1 and an effect at most e. Answers whether anything was written.
 pub fn effect_to(s: &mut [u8], x: Shape, w: usize, e: Effect) -> bool
-    requires { ⌜ Within x × (w < 4294967296) × (2 * (w + effectSize (x .types)) ≤ length (now s)) ⌝ }
+    requires { ⌜ (2 * (w + effectSize (x .types)) ≤ length (now s)) × (x .types ≤ 6) ⌝ }
     ensures { λ r. ⌜ (r ≡ not (effectUnder (now (s .entry)) x w e)) × (now (s .exit) ≡ effectTo (now (s .entry)) x w e) ⌝ }
 {
-    if demand::is_marked(s, w) {
+    if sheet::is_marked(s, w) {
         let old = sheet::effect(s, x.types, w);
         if effect::at_most(old, e) {
             return false;
@@ -29,10 +29,10 @@ pub fn effect_to(s: &mut [u8], x: Shape, w: usize, e: Effect) -> bool
 
 // The block at w gets mark 1 and a stock at most h. Answers whether anything was written.
 pub fn stock_to(s: &mut [u8], x: Shape, w: usize, h: Stock) -> bool
-    requires { ⌜ Within x × (w < 4294967296) × (2 * (w + stockSize (x .types)) ≤ length (now s)) ⌝ }
+    requires { ⌜ (2 * (w + stockSize (x .types)) ≤ length (now s)) × (x .types ≤ 6) ⌝ }
     ensures { λ r. ⌜ (r ≡ not (stockUnder (now (s .entry)) x w h)) × (now (s .exit) ≡ stockTo (now (s .entry)) x w h) ⌝ }
 {
-    if demand::is_marked(s, w) {
+    if sheet::is_marked(s, w) {
         let old = sheet::stock(s, x.types, w);
         if effect::stock_at_most(old, h) {
             return false;

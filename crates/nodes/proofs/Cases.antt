@@ -4,13 +4,12 @@ use mathlib.Core.Path.{_≡_, sym, ap, _∙_}
 use mathlib.Core.List.{List}
 use borrow.Author.Tests.{lt-ltb, le-ltb, le-leb, lt-leb, eq-eqb, ne-eqb}
 use Rattle.effect.specs.declared.Effect.{Effect}
-use Rattle.effect.specs.Six.{noneHeld}
 use Rattle.effect.specs.Whole.{nothingDone, drawOf, grantOf}
 use Rattle.model.specs.Stocks.{Does, plain, grant, draw, stepOf}
 use Rattle.tables.specs.declared.Tables.{Tables}
 use Rattle.tables.specs.Kinds.{grantKind, drawKind}
-use Rattle.tables.specs.Fields.{nodeKind, nodeNumber, nodeCount, nodeRights, openingRights, openingCount}
-use Rattle.nodes.specs.Nodes.{doesIn, openingAt}
+use Rattle.tables.specs.Fields.{nodeKind, nodeNumber, nodeCount, nodeRights}
+use Rattle.nodes.specs.Nodes.{doesIn, forType}
 
 module _ (f : List ℕ) (t : Tables) (n : ℕ) where
   pub does-outside : t .nodes ≤ n → doesIn f t n ≡ plain
@@ -44,11 +43,10 @@ module _ (r : Effect) {d : Does} where
   unfolding stepOf
   step-draw e q a = q ∙ ap drawOf a ∙ ap stepOf (sym e)
 
-module _ (f : List ℕ) (t : Tables) (k : ℕ) where
-  pub opening-some : (r c : ℕ) → k < t .types → r ≡ openingRights f t k → c ≡ openingCount f t k → record { rights = r; count = c } ≡ openingAt f t k
-  unfolding openingAt
-  opening-some r c h p q = simp (lt-ltb k (t .types) h) (λ i. record { rights = p i; count = q i })
+-- what the opening stock has of a type
+module _ (t : Tables) (row : ℕ → ℕ) (k : ℕ) where
+  pub for-some : k < t .types → forType t row k ≡ row k
+  for-some h = simp (lt-ltb k (t .types) h)
 
-  pub opening-none : t .types ≤ k → noneHeld ≡ openingAt f t k
-  unfolding openingAt
-  opening-none h = simp (le-ltb k (t .types) h)
+  pub for-none : t .types ≤ k → forType t row k ≡ 0
+  for-none h = simp (le-ltb k (t .types) h)

@@ -1,11 +1,10 @@
 -- What the nodes of a file do to a stock, and the stock that a run starts with.
 use Prim.Native.Nat.{ℕ}
-use mathlib.Core.Bool.{Bool, true, false}
+use mathlib.Core.Bool.{Bool, true, false, cond}
 use mathlib.Core.List.{List}
 use lib.Dec.{ltb, leb, eqb}
-use Rattle.single.specs.declared.Held.{Held}
 use Rattle.effect.specs.declared.Stock.{Stock}
-use Rattle.effect.specs.Six.{stockOf, heldIf, noneHeld}
+use Rattle.effect.specs.Six.{six}
 use Rattle.model.specs.Stocks.{Does, plain, grant, draw}
 use Rattle.tables.specs.declared.Tables.{Tables}
 use Rattle.tables.specs.Kinds.{grantKind, drawKind}
@@ -22,9 +21,9 @@ doesIn f t n =
     (doesIf (eqb (nodeKind f t n) grantKind) (grant (nodeNumber f t n) (nodeRights f t n) (nodeCount f t n))
     (doesIf (eqb (nodeKind f t n) drawKind) (draw (nodeNumber f t n) (nodeRights f t n)) plain))
 
--- "opening stock: rights, count", for the types that the file has
-unfoldable pub openingAt : List ℕ → Tables → ℕ → Held
-openingAt f t k = heldIf (ltb k (t .types)) (record { rights = openingRights f t k; count = openingCount f t k }) noneHeld
+-- "opening stock: rights, count": a number for each type that the file has, 0 for the others
+abbrev pub forType : Tables → (ℕ → ℕ) → ℕ → ℕ
+forType t row k = cond (ltb k (t .types)) (row k) 0
 
 unfoldable pub openingIn : List ℕ → Tables → Stock
-openingIn f t = stockOf (openingAt f t)
+openingIn f t = record { rights = six (forType t (openingRights f t)); counts = six (forType t (openingCount f t)) }

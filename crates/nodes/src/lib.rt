@@ -1,19 +1,17 @@
 // What the nodes of a file do to a stock, and the stock that a run starts with.
 use effect::Effect;
 use effect::Stock;
-use single::Held;
 use tables::Tables;
 ghost use mathlib.Core.Path.{_≡_};
-ghost use Prim.Native.Nat.{_<_};
+ghost use Rattle.tables.specs.Fields.{openingRights, openingCount};
 ghost use Rattle.model.specs.Stocks.{stepOf};
-ghost use Rattle.nodes.specs.Nodes.{doesIn, openingAt, openingIn};
+ghost use Rattle.nodes.specs.Nodes.{doesIn, forType, openingIn};
 
 // The effect of node n's own step.
-pub fn step(f: &[u8], t: Tables, n: usize) -> Effect
-    requires { ⌜ n < 65536 ⌝ }
+pub fn step(f: &[u8], t: Tables, n: u16) -> Effect
     ensures { λ r. ⌜ r ≡ stepOf (doesIn (now (f .entry)) t n) ⌝ }
 {
-    if t.nodes as usize <= n {
+    if t.nodes <= n {
         return effect::nothing_done();
     }
     let kind = tables::node_kind(f, t, n);
@@ -21,29 +19,32 @@ pub fn step(f: &[u8], t: Tables, n: usize) -> Effect
         let number = tables::node_number(f, t, n);
         let rights = tables::node_rights(f, t, n);
         let count = tables::node_count(f, t, n);
-        return effect::grant(number, rights as u16, count as u16);
+        return effect::grant(number as usize, rights, count);
     }
     if kind == tables::DRAW {
-        return effect::draw(tables::node_number(f, t, n));
+        return effect::draw(tables::node_number(f, t, n) as usize);
     }
     effect::nothing_done()
 }
 
-fn opening_at(f: &[u8], t: Tables, k: usize) -> Held
-    requires { ⌜ k < 65536 ⌝ }
-    ensures { λ r. ⌜ r ≡ openingAt (now (f .entry)) t k ⌝ }
+// What the opening stock has of type k, of those that the file has.
+fn rights_of(f: &[u8], t: Tables, k: u16) -> u16
+    ensures { λ r. ⌜ r ≡ forType t (openingRights (now (f .entry)) t) k ⌝ }
 {
-    if k < t.types as usize {
-        let rights = tables::opening_rights(f, t, k);
-        let count = tables::opening_count(f, t, k);
-        return Held {
-            rights: rights as u16,
-            count: count as u16,
-        };
+    if k < t.types {
+        tables::opening_rights(f, t, k)
+    } else {
+        0
     }
-    Held {
-        rights: 0,
-        count: 0,
+}
+
+fn count_of(f: &[u8], t: Tables, k: u16) -> u16
+    ensures { λ r. ⌜ r ≡ forType t (openingCount (now (f .entry)) t) k ⌝ }
+{
+    if k < t.types {
+        tables::opening_count(f, t, k)
+    } else {
+        0
     }
 }
 
@@ -51,12 +52,21 @@ fn opening_at(f: &[u8], t: Tables, k: usize) -> Held
 pub fn opening(f: &[u8], t: Tables) -> Stock
     ensures { λ r. ⌜ r ≡ openingIn (now (f .entry)) t ⌝ }
 {
-    effect::stock_of(
-        opening_at(f, t, 0),
-        opening_at(f, t, 1),
-        opening_at(f, t, 2),
-        opening_at(f, t, 3),
-        opening_at(f, t, 4),
-        opening_at(f, t, 5),
-    )
+    let rights = [
+        rights_of(f, t, 0),
+        rights_of(f, t, 1),
+        rights_of(f, t, 2),
+        rights_of(f, t, 3),
+        rights_of(f, t, 4),
+        rights_of(f, t, 5),
+    ];
+    let counts = [
+        count_of(f, t, 0),
+        count_of(f, t, 1),
+        count_of(f, t, 2),
+        count_of(f, t, 3),
+        count_of(f, t, 4),
+        count_of(f, t, 5),
+    ];
+    Stock { rights, counts }
 }

@@ -21,9 +21,9 @@ use Rattle.graph.specs.Judgement.{shapeOf}
 use Rattle.graph.proofs.Passed.{judged}
 use Rattle.nodes.proofs.Cases.{does-grant, does-draw, does-plain}
 use Rattle.layout.specs.Layout.{methodAt, nodeAt}
-use Rattle.demand.specs.Demand.{marked}
+use Rattle.sheet.specs.Read.{marked}
+use Rattle.sheet.proofs.Marked.{mark-true, true-mark}
 use Rattle.rules.specs.Sheet.{stockIn, IsReached}
-use Rattle.rules.proofs.Blocks.{mark-true, true-mark}
 use Rattle.rules.proofs.Asked.{true-false}
 use Rattle.permit.specs.Check.{uncoveredAt}
 use Rattle.permit.specs.Meaning.{IsCovered}

@@ -3,18 +3,15 @@ use answer::Answer;
 use layout::Shape;
 use tables::Tables;
 ghost use mathlib.Core.Path.{_≡_};
-ghost use Prim.Native.Nat.{_<_};
 ghost use Rattle.words.specs.Lowest.{lowest};
-ghost use Rattle.answer.specs.declared.Answer.the-variants.{Pass};
-ghost use Rattle.graph.specs.Judge.{judgeIn};
+ghost use Rattle.rows.specs.Rows.{Sorted};
 ghost use Rattle.nodes.specs.Program.{Safe};
 ghost use Rattle.layout.specs.Layout.{Within};
 ghost use Rattle.permit.specs.Check.{uncoveredAt, verdictOf, judgedSheet, wholeSheet, checkOf};
 ghost use Rattle.permit.specs.Meaning.{Checks};
 
 // Node n is a draw, the sheet calls it reached, and its stock there does not cover it. Judged before the node's own step.
-fn uncovered(f: &[u8], t: Tables, x: Shape, s: &[u8], n: usize) -> bool
-    requires { ⌜ Within x × (n < 65536) ⌝ }
+fn uncovered(f: &[u8], t: Tables, x: Shape, s: &[u8], n: u16) -> bool
     ensures { λ r. ⌜ r ≡ uncoveredAt (now (f .entry)) t x (now (s .entry)) n ⌝ }
 {
     if tables::node_kind(f, t, n) != tables::DRAW {
@@ -24,17 +21,16 @@ fn uncovered(f: &[u8], t: Tables, x: Shape, s: &[u8], n: usize) -> bool
         let held = listing::stock(f, t, x, s, n);
         let number = tables::node_number(f, t, n);
         let rights = tables::node_rights(f, t, n);
-        return !effect::covers(held, number, rights as u16);
+        return !effect::covers(held, number as usize, rights);
     }
     false
 }
 
 // The lowest node that is not covered, or how many nodes there are.
-fn first_uncovered(f: &[u8], t: Tables, x: Shape, s: &[u8]) -> usize
-    requires { ⌜ Within x ⌝ }
-    ensures { λ r. ⌜ (r ≡ lowest (uncoveredAt (now (f .entry)) t x (now (s .entry))) (t .nodes)) × (r < 65536) ⌝ }
+fn first_uncovered(f: &[u8], t: Tables, x: Shape, s: &[u8]) -> u16
+    ensures { λ r. ⌜ r ≡ lowest (uncoveredAt (now (f .entry)) t x (now (s .entry))) (t .nodes) ⌝ }
 {
-    let count = t.nodes as usize;
+    let count = t.nodes;
     let mut n = 0;
     while n < count {
         if uncovered(f, t, x, s, n) {
@@ -47,19 +43,18 @@ fn first_uncovered(f: &[u8], t: Tables, x: Shape, s: &[u8]) -> usize
 
 // The draws: 13 with the lowest node that is not covered, or 0.
 pub fn verdict(f: &[u8], t: Tables, x: Shape, s: &[u8]) -> Answer
-    requires { ⌜ Within x ⌝ }
     ensures { λ r. ⌜ r ≡ verdictOf (now (f .entry)) t x (now (s .entry)) ⌝ }
 {
     let n = first_uncovered(f, t, x, s);
-    if n < t.nodes as usize {
-        return graph::overdrawn_at(f, t, n as u16);
+    if n < t.nodes {
+        return graph::overdrawn_at(f, t, n);
     }
     Answer::Pass
 }
 
 // The rules and the draws, of a sheet with no ill-formed block.
 fn of_whole(f: &[u8], t: Tables, x: Shape, s: &[u8]) -> Answer
-    requires { ⌜ (judgeIn (now f) t ≡ Pass) × Within x ⌝ }
+    requires { ⌜ Sorted (now f) t ⌝ }
     ensures { λ r. ⌜ r ≡ wholeSheet (now (f .entry)) t x (now (s .entry)) ⌝ }
 {
     let rule = rules::broken(f, t, x, s);
@@ -71,7 +66,7 @@ fn of_whole(f: &[u8], t: Tables, x: Shape, s: &[u8]) -> Answer
 
 // The sheet, for a file that passes.
 fn of_judged(f: &[u8], t: Tables, x: Shape, s: &[u8]) -> Answer
-    requires { ⌜ (judgeIn (now f) t ≡ Pass) × Within x ⌝ }
+    requires { ⌜ Sorted (now f) t × Within x ⌝ }
     ensures { λ r. ⌜ r ≡ judgedSheet (now (f .entry)) t x (now (s .entry)) ⌝ }
 {
     if s.len() != layout::sheet_bytes(x) {

@@ -2,7 +2,6 @@
 use answer::Answer;
 use tables::Tables;
 ghost use mathlib.Core.Path.{_≡_};
-ghost use Prim.Native.Nat.{_<_};
 ghost use Rattle.nodes.specs.Program.{Safe};
 ghost use Rattle.profile.specs.Profile.{Profiled, BreaksOneShot, BreaksSession};
 ghost use Rattle.profile.specs.Looks.{isDraw, asks, rowsOf, nodeOf, convicts, convicted, lowestOf, breaking, Breaks};
@@ -23,21 +22,20 @@ enum Profile {
     Session,
 }
 
-fn rows(t: Tables, look: Look) -> usize
-    ensures { λ r. ⌜ (r ≡ rowsOf t look) × (r < 65536) ⌝ }
+fn rows(t: Tables, look: Look) -> u16
+    ensures { λ r. ⌜ r ≡ rowsOf t look ⌝ }
 {
     match look {
-        Look::Flow => t.flows as usize,
-        Look::Entry => t.methods as usize,
-        Look::Catch => t.catches as usize,
-        Look::Grant => t.nodes as usize,
-        Look::Call => t.calls as usize,
+        Look::Flow => t.flows,
+        Look::Entry => t.methods,
+        Look::Catch => t.catches,
+        Look::Grant => t.nodes,
+        Look::Call => t.calls,
     }
 }
 
 // The node that row k speaks of.
-fn node(f: &[u8], t: Tables, look: Look, k: usize) -> usize
-    requires { ⌜ k < 65536 ⌝ }
+fn node(f: &[u8], t: Tables, look: Look, k: u16) -> u16
     ensures { λ r. ⌜ r ≡ nodeOf (now (f .entry)) t look k ⌝ }
 {
     match look {
@@ -49,16 +47,14 @@ fn node(f: &[u8], t: Tables, look: Look, k: usize) -> usize
     }
 }
 
-fn is_draw(f: &[u8], t: Tables, n: usize) -> bool
-    requires { ⌜ n < 65536 ⌝ }
+fn is_draw(f: &[u8], t: Tables, n: u16) -> bool
     ensures { λ r. ⌜ r ≡ isDraw (now (f .entry)) t n ⌝ }
 {
     tables::node_kind(f, t, n) == tables::DRAW
 }
 
 // Node g is a grant of the type of the draw d, whose rights contain the draw's, with a count of exactly 1.
-fn asks(f: &[u8], t: Tables, g: usize, d: usize) -> bool
-    requires { ⌜ (g < 65536) × (d < 65536) ⌝ }
+fn asks(f: &[u8], t: Tables, g: u16, d: u16) -> bool
     ensures { λ r. ⌜ r ≡ asks (now (f .entry)) t g d ⌝ }
 {
     let kind = tables::node_kind(f, t, g);
@@ -71,8 +67,7 @@ fn asks(f: &[u8], t: Tables, g: usize, d: usize) -> bool
 }
 
 // Flow row k leads to a draw, and leaves anything but a grant that asks for it.
-fn flow_convicts(f: &[u8], t: Tables, k: usize) -> bool
-    requires { ⌜ k < 65536 ⌝ }
+fn flow_convicts(f: &[u8], t: Tables, k: u16) -> bool
     ensures { λ r. ⌜ r ≡ convicts (now (f .entry)) t Look.Flow k ⌝ }
 {
     let from = tables::flow_from(f, t, k);
@@ -81,8 +76,7 @@ fn flow_convicts(f: &[u8], t: Tables, k: usize) -> bool
 }
 
 // Node k is a grant, and does not stand in method 0 with count 255.
-fn grant_convicts(f: &[u8], t: Tables, k: usize) -> bool
-    requires { ⌜ k < 65536 ⌝ }
+fn grant_convicts(f: &[u8], t: Tables, k: u16) -> bool
     ensures { λ r. ⌜ r ≡ convicts (now (f .entry)) t Look.Grant k ⌝ }
 {
     let kind = tables::node_kind(f, t, k);
@@ -91,8 +85,7 @@ fn grant_convicts(f: &[u8], t: Tables, k: usize) -> bool
     (kind == tables::GRANT) & !((method == 0) & (count == 255))
 }
 
-fn convicts(f: &[u8], t: Tables, look: Look, k: usize) -> bool
-    requires { ⌜ k < 65536 ⌝ }
+fn convicts(f: &[u8], t: Tables, look: Look, k: u16) -> bool
     ensures { λ r. ⌜ r ≡ convicts (now (f .entry)) t look k ⌝ }
 {
     match look {
@@ -105,12 +98,11 @@ fn convicts(f: &[u8], t: Tables, look: Look, k: usize) -> bool
 }
 
 // The node that row k convicts, or how many nodes there are.
-fn convicted(f: &[u8], t: Tables, look: Look, k: usize) -> usize
-    requires { ⌜ k < 65536 ⌝ }
+fn convicted(f: &[u8], t: Tables, look: Look, k: u16) -> usize
     ensures { λ r. ⌜ r ≡ convicted (now (f .entry)) t look k ⌝ }
 {
     if convicts(f, t, look, k) {
-        return node(f, t, look, k);
+        return node(f, t, look, k) as usize;
     }
     t.nodes as usize
 }

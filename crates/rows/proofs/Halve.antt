@@ -7,14 +7,13 @@ use lib.Dec.{leb, ltb}
 use borrow.Author.Tests.{ltb-true, ltb-false, lt-leb}
 use Rattle.words.specs.Lowest.{lowest}
 use Rattle.words.proofs.Lowest.{NoneBelow, lowest-is, lowest-none}
-use Rattle.rows.proofs.Climb.{Climbs}
 
 -- the row's key is at least x
 abbrev pub AtLeast : (ℕ → ℕ) → ℕ → ℕ → Bool
 AtLeast key x k = leb x (key k)
 
 -- where the key of a row is less than x, so is that of each row before
-pub less-below : (key : ℕ → ℕ) (n x m : ℕ) → Climbs key n → m < n → key m < x → NoneBelow (AtLeast key x) (m + 1)
+pub less-below : (key : ℕ → ℕ) (n x m : ℕ) → ((i k : ℕ) → i ≤ k → k < n → key i ≤ key k) → m < n → key m < x → NoneBelow (AtLeast key x) (m + 1)
 less-below key n x m h l u k v =
     let w : key k ≤ key m = h k m (omega arith) l in
     lt-leb x (key k) (omega arith)

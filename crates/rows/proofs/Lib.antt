@@ -1,4 +1,2 @@
-pub mod Climb
 pub mod Halve
-pub mod Stretch
-pub mod Caught
+pub mod Stretches

@@ -1,34 +1,77 @@
 -- The rows of one node, and of a node and an exception.
-use Prim.Native.Nat.{ℕ, _+_, _*_}
-use mathlib.Core.Bool.{Bool, _&&_}
+use Prim.Native.Nat.{ℕ, _+_, _-_, _*_, _<_, _≤_}
+use mathlib.Core.Bool.{Bool}
 use mathlib.Core.List.{List}
-use lib.Dec.{leb, eqb}
+use lib.Dec.{leb}
 use Rattle.words.specs.Lowest.{lowest}
+use Rattle.words.specs.Turn.{inTurn, allFor}
 use Rattle.tables.specs.declared.Tables.{Tables}
-use Rattle.tables.specs.Fields.{flowFrom, callNode, catchFrom, catchException}
-use Rattle.rows.specs.declared.Sorted.{Sorted}
-use Rattle.rows.specs.declared.Sorted.the-variants.{Flow, Calls, Catches}
+use Rattle.tables.specs.declared.Table.{Table}
+use Rattle.tables.specs.declared.Table.the-variants.{Trailer, Methods, Nodes, Flow, Calls, Catches, Opening}
+use Rattle.tables.specs.Rows.{rowsOf}
+use Rattle.tables.specs.Fields.{entryOf, flowFrom, flowTo, callNode, catchFrom, catchException, catchTo}
+use Rattle.rows.specs.declared.Stretch.{Stretch}
 
--- how many rows a sorted table has
-abbrev pub lengthOf : Tables → Sorted → ℕ
-lengthOf t Flow = t .flows
-lengthOf t Calls = t .calls
-lengthOf t Catches = t .catches
+-- one number for a node and an exception, which is at most 7
+abbrev pub catchKey : ℕ → ℕ → ℕ
+catchKey n e = 8 * n + e
 
--- what the rows of one stretch share: the node, in the catches with the exception, which is at most 7
-abbrev pub keyOf : List ℕ → Tables → Sorted → ℕ → ℕ
+-- what the rows of a node share: the node, in the catches with the exception; a row of another table goes by its own number
+abbrev pub keyOf : List ℕ → Tables → Table → ℕ → ℕ
+keyOf f t Trailer k = k
+keyOf f t Methods k = k
+keyOf f t Nodes k = k
 keyOf f t Flow k = flowFrom f t k
 keyOf f t Calls k = callNode f t k
-keyOf f t Catches k = 8 * catchFrom f t k + catchException f t k
+keyOf f t Catches k = catchKey (catchFrom f t k) (catchException f t k)
+keyOf f t Opening k = k
+
+-- from one row of the table to a later one the key never falls; and so in every table
+abbrev pub Rises : List ℕ → Tables → Table → Type 0
+Rises f t table = (i k : ℕ) → i ≤ k → k < rowsOf t table → keyOf f t table i ≤ keyOf f t table k
+
+abbrev pub Sorted : List ℕ → Tables → Type 0
+Sorted f t = (table : Table) → Rises f t table
 
 -- the lowest row whose key is at least x
-unfoldable pub firstRow : List ℕ → Tables → Sorted → ℕ → ℕ
-firstRow f t s x = lowest (λ k. leb x (keyOf f t s k)) (lengthOf t s)
+unfoldable pub firstRow : List ℕ → Tables → Table → ℕ → ℕ
+firstRow f t table x = lowest (λ k. leb x (keyOf f t table k)) (rowsOf t table)
 
--- row k of the catches is for the exception e at the node n
-unfoldable pub catchAt : List ℕ → Tables → ℕ → ℕ → ℕ → Bool
-catchAt f t n e k = eqb (catchFrom f t k) n && eqb (catchException f t k) e
+-- the rows with key x: from the lowest whose key is at least x up to the lowest whose key is at least x + 1
+unfoldable pub stretchOf : List ℕ → Tables → Table → ℕ → Stretch
+stretchOf f t table x = record { from = firstRow f t table x; to = firstRow f t table (x + 1) }
+
+-- the flow rows from node n, the call rows at node n, the catch rows at node n for the exception e
+abbrev pub flowOf : List ℕ → Tables → ℕ → Stretch
+flowOf f t n = stretchOf f t Flow n
+
+abbrev pub callsOf : List ℕ → Tables → ℕ → Stretch
+callsOf f t n = stretchOf f t Calls n
+
+abbrev pub catchesOf : List ℕ → Tables → ℕ → ℕ → Stretch
+catchesOf f t n e = stretchOf f t Catches (catchKey n e)
+
+-- no row is in the stretch
+abbrev pub noRows : Stretch → Bool
+noRows s = leb (s .to) (s .from)
 
 -- there is no catch row for the exception e at the node n
-unfoldable pub uncaughtOf : List ℕ → Tables → ℕ → ℕ → Bool
-uncaughtOf f t n e = eqb (lowest (catchAt f t n e) (t .catches)) (t .catches)
+abbrev pub uncaughtOf : List ℕ → Tables → ℕ → ℕ → Bool
+uncaughtOf f t n e = noRows (catchesOf f t n e)
+
+-- the node that row k leads to: an entry node, the end of a flow row, a handler; 0 in the tables that lead to no node
+abbrev pub targetOf : List ℕ → Tables → Table → ℕ → ℕ
+targetOf f t Trailer k = 0
+targetOf f t Methods k = entryOf f k
+targetOf f t Nodes k = 0
+targetOf f t Flow k = flowTo f t k
+targetOf f t Calls k = 0
+targetOf f t Catches k = catchTo f t k
+targetOf f t Opening k = 0
+
+-- p holds of each row of the stretch; and each row's step, in turn
+abbrev pub allIn : (ℕ → Bool) → Stretch → Bool
+allIn p s = allFor p (s .from) (s .to - s .from)
+
+abbrev pub eachIn : (ℕ → List ℕ → List ℕ) → Stretch → List ℕ → List ℕ
+eachIn act s = inTurn act (s .from) (s .to - s .from)

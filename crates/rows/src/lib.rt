@@ -1,50 +1,51 @@
 // The rows of one node. The flow, the calls and the catches are sorted, so a node's rows stand together, and are found by halving.
+use tables::Table;
 use tables::Tables;
 ghost use mathlib.Core.Path.{_≡_};
-ghost use Prim.Native.Nat.{_<_, _≤_};
-ghost use Rattle.answer.specs.declared.Answer.the-variants.{Pass};
-ghost use Rattle.graph.specs.Judge.{judgeIn};
-ghost use Rattle.rows.specs.Rows.{lengthOf, keyOf, firstRow, uncaughtOf};
+ghost use Prim.Native.Nat.{_<_};
+ghost use Rattle.rows.specs.Rows.{catchKey, keyOf, Sorted, firstRow, stretchOf, flowOf, callsOf, catchesOf, noRows, uncaughtOf, targetOf};
 
-// The sorted tables.
-pub enum Sorted {
-    Flow,
-    Calls,
-    Catches,
+// The rows from `from` on and before `to`.
+pub struct Stretch {
+    pub from: u16,
+    pub to: u16,
 }
 
-fn length(t: Tables, s: Sorted) -> usize
-    ensures { λ r. ⌜ (r ≡ lengthOf t s) × (r < 65536) ⌝ }
+// One number for a node and an exception, of which there are eight.
+fn catch_key(n: u16, e: u16) -> u32
+    ensures { λ r. ⌜ r ≡ catchKey n e ⌝ }
 {
-    match s {
-        Sorted::Flow => t.flows as usize,
-        Sorted::Calls => t.calls as usize,
-        Sorted::Catches => t.catches as usize,
+    8 * (n as u32) + e as u32
+}
+
+// What the rows of a node share.
+fn key(f: &[u8], t: Tables, table: Table, k: u16) -> u32
+    ensures { λ r. ⌜ r ≡ keyOf (now (f .entry)) t table k ⌝ }
+{
+    match table {
+        Table::Trailer => k as u32,
+        Table::Methods => k as u32,
+        Table::Nodes => k as u32,
+        Table::Flow => tables::flow_from(f, t, k) as u32,
+        Table::Calls => tables::call_node(f, t, k) as u32,
+        Table::Catches => catch_key(
+            tables::catch_from(f, t, k),
+            tables::catch_exception(f, t, k),
+        ),
+        Table::Opening => k as u32,
     }
 }
 
-fn key(f: &[u8], t: Tables, s: Sorted, k: usize) -> usize
-    requires { ⌜ k < 65536 ⌝ }
-    ensures { λ r. ⌜ r ≡ keyOf (now (f .entry)) t s k ⌝ }
-{
-    match s {
-        Sorted::Flow => tables::flow_from(f, t, k),
-        Sorted::Calls => tables::call_node(f, t, k),
-        Sorted::Catches => 8 * tables::catch_from(f, t, k) + tables::catch_exception(f, t, k),
-    }
-}
-
-// The lowest row whose key is at least x, or how many rows there are. The rows with key x are those from first_row of x up to
-// first_row of x + 1.
-pub fn first_row(f: &[u8], t: Tables, s: Sorted, x: usize) -> usize
-    requires { ⌜ judgeIn (now f) t ≡ Pass ⌝ }
-    ensures { λ r. ⌜ (r ≡ firstRow (now (f .entry)) t s x) × (r ≤ lengthOf t s) × (r < 65536) ⌝ }
+// The lowest row whose key is at least x, or how many rows there are.
+fn first_row(f: &[u8], t: Tables, table: Table, x: u32) -> u16
+    requires { ⌜ Sorted (now f) t ⌝ }
+    ensures { λ r. ⌜ r ≡ firstRow (now (f .entry)) t table x ⌝ }
 {
     let mut low = 0;
-    let mut high = length(t, s);
+    let mut high = tables::rows(t, table);
     while low < high {
-        let middle = (low + high) / 2;
-        if x <= key(f, t, s, middle) {
+        let middle = low + (high - low) / 2;
+        if x <= key(f, t, table, middle) {
             high = middle;
         } else {
             low = middle + 1;
@@ -53,15 +54,66 @@ pub fn first_row(f: &[u8], t: Tables, s: Sorted, x: usize) -> usize
     low
 }
 
+// The rows with key x.
+fn with_key(f: &[u8], t: Tables, table: Table, x: u32) -> Stretch
+    requires { ⌜ Sorted (now f) t × (x < 1048576) ⌝ }
+    ensures { λ r. ⌜ r ≡ stretchOf (now (f .entry)) t table x ⌝ }
+{
+    Stretch {
+        from: first_row(f, t, table, x),
+        to: first_row(f, t, table, x + 1),
+    }
+}
+
+// The flow rows from node n,
+pub fn flow_of(f: &[u8], t: Tables, n: u16) -> Stretch
+    requires { ⌜ Sorted (now f) t ⌝ }
+    ensures { λ r. ⌜ r ≡ flowOf (now (f .entry)) t n ⌝ }
+{
+    with_key(f, t, Table::Flow, n as u32)
+}
+
+// the call rows at node n,
+pub fn calls_of(f: &[u8], t: Tables, n: u16) -> Stretch
+    requires { ⌜ Sorted (now f) t ⌝ }
+    ensures { λ r. ⌜ r ≡ callsOf (now (f .entry)) t n ⌝ }
+{
+    with_key(f, t, Table::Calls, n as u32)
+}
+
+// and the catch rows at node n for the exception e.
+pub fn catches_of(f: &[u8], t: Tables, n: u16, e: u16) -> Stretch
+    requires { ⌜ Sorted (now f) t ⌝ }
+    ensures { λ r. ⌜ r ≡ catchesOf (now (f .entry)) t n e ⌝ }
+{
+    with_key(f, t, Table::Catches, catch_key(n, e))
+}
+
+pub fn no_rows(s: Stretch) -> bool
+    ensures { λ r. ⌜ r ≡ noRows s ⌝ }
+{
+    s.to <= s.from
+}
+
 // There is no catch row for the exception e at the node n.
-pub fn uncaught(f: &[u8], t: Tables, n: usize, e: usize) -> bool
-    requires { ⌜ (judgeIn (now f) t ≡ Pass) × (n < 65536) × (e < 8) ⌝ }
+pub fn uncaught(f: &[u8], t: Tables, n: u16, e: u16) -> bool
+    requires { ⌜ Sorted (now f) t ⌝ }
     ensures { λ r. ⌜ r ≡ uncaughtOf (now (f .entry)) t n e ⌝ }
 {
-    let k = first_row(f, t, Sorted::Catches, 8 * n + e);
-    if k < t.catches as usize {
-        !((tables::catch_from(f, t, k) == n) & (tables::catch_exception(f, t, k) == e))
-    } else {
-        true
+    no_rows(catches_of(f, t, n, e))
+}
+
+// The node that row k leads to, 0 in a table that leads to none.
+pub fn target(f: &[u8], t: Tables, table: Table, k: u16) -> u16
+    ensures { λ r. ⌜ r ≡ targetOf (now (f .entry)) t table k ⌝ }
+{
+    match table {
+        Table::Trailer => 0,
+        Table::Methods => tables::entry(f, k),
+        Table::Nodes => 0,
+        Table::Flow => tables::flow_to(f, t, k),
+        Table::Calls => 0,
+        Table::Catches => tables::catch_to(f, t, k),
+        Table::Opening => 0,
     }
 }

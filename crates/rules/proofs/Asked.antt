@@ -8,7 +8,8 @@ use Rattle.effect.specs.declared.Effect.{Effect}
 use Rattle.layout.specs.declared.Shape.{Shape}
 use Rattle.demand.specs.declared.Demand.{Demand}
 use Rattle.demand.specs.Demand.{asked, unasked, askedIf, demandIf}
-use Rattle.rules.specs.Tests.{effectUnder, met}
+use Rattle.sheet.specs.Under.{effectUnder}
+use Rattle.rules.specs.Tests.{met}
 use Rattle.rules.specs.Broken.{brokenIf}
 
 module _ (x : Shape) (s : List ℕ) where

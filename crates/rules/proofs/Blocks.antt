@@ -6,8 +6,7 @@ use mathlib.Core.Bool.{Bool, true, false, _&&_}
 use mathlib.Core.List.{List}
 use native.Mathlib.Omega.{arith}
 use lib.Dec.{ltb}
-use borrow.Author.Tests.{eq-eqb, eqb-true, le-ltb, ne-eqb}
-use Rattle.words.proofs.Lowest.{is-lowest}
+use borrow.Author.Tests.{le-ltb, ne-eqb}
 use Rattle.effect.specs.declared.Stock.{Stock}
 use Rattle.effect.specs.declared.Effect.{Effect}
 use Rattle.effect.specs.Whole.{normalOf}
@@ -18,21 +17,13 @@ use Rattle.model.specs.Stocks.{permits}
 use Rattle.layout.specs.declared.Shape.{Shape}
 use Rattle.layout.specs.Layout.{methodAt, exitAt, nodeAt, blockCount, isStock}
 use Rattle.layout.proofs.Blocks.{block-exit, block-node}
-use Rattle.sheet.specs.Read.{markAt, stockAt, effectAt}
+use Rattle.sheet.specs.Read.{markAt, stockAt, effectAt, marked}
 use Rattle.sheet.proofs.Back.{effect-read, stock-read}
-use Rattle.formed.specs.Ill.{illBlock, firstIll}
-use Rattle.formed.proofs.Judged.{Formed, formed}
-use Rattle.demand.specs.Demand.{marked}
-use Rattle.rules.specs.Tests.{effectUnder, stockUnder}
-use Rattle.rules.specs.Sheet.{sheetIn}
-
-pub mark-true : (s : List ℕ) (w : ℕ) → marked s w ≡ true → markAt s w ≡ 1
-unfolding marked
-mark-true s w h = eqb-true (markAt s w) 1 h
-
-pub true-mark : (s : List ℕ) (w : ℕ) → markAt s w ≡ 1 → marked s w ≡ true
-unfolding marked
-true-mark s w h = eq-eqb (markAt s w) 1 h
+use Rattle.formed.specs.Ill.{firstIll}
+use Rattle.formed.proofs.Judged.{block-formed}
+use Rattle.sheet.specs.Under.{effectUnder, stockUnder}
+use Rattle.formed.specs.Sheet.{sheetIn}
+use Rattle.sheet.proofs.Marked.{mark-true, true-mark}
 
 module _ (x : Shape) (s : List ℕ) (w : ℕ) where
   effect-sound : (e : Effect) → effectUnder s x w e ≡ true → (markAt s w ≡ 1) × AtMost permits (effectAt s (x .types) w) e
@@ -41,7 +32,7 @@ module _ (x : Shape) (s : List ℕ) (w : ℕ) where
 
   effect-complete : (e : Effect) → markAt s w ≡ 1 → AtMost permits (effectAt s (x .types) w) e → effectUnder s x w e ≡ true
   unfolding effectUnder
-  effect-complete e m h = and-i (true-mark s w m) (at-most-at-complete _ e (λ k l. effect-read s (x .types) w .fit k l .keepmax-fits) h)
+  effect-complete e m h = and-i (true-mark s w m) (at-most-at-complete _ e (λ k l. effect-read s (x .types) w .keepmax .words k l) h)
 
   stock-sound : (h : Stock) → stockUnder s x w h ≡ true → (markAt s w ≡ 1) × Below permits (stockAt s (x .types) w) h
   unfolding stockUnder
@@ -49,14 +40,11 @@ module _ (x : Shape) (s : List ℕ) (w : ℕ) where
 
   stock-complete : (h : Stock) → markAt s w ≡ 1 → Below permits (stockAt s (x .types) w) h → stockUnder s x w h ≡ true
   unfolding stockUnder
-  stock-complete h m q = and-i (true-mark s w m) (stock-at-complete _ h (λ k l. stock-read s (x .types) w .fit k l .rights-fit) q)
+  stock-complete h m q = and-i (true-mark s w m) (stock-at-complete _ h (λ k l. stock-read s (x .types) w .rights .words k l) q)
 
 -- of a sheet with no ill-formed block
 module _ (x : Shape) (s : List ℕ) (whole : firstIll s x ≡ blockCount x) where
   open Sheet (sheetIn x s) using (Called, stock, Exit, exit, Node, node)
-
-  pub block-formed : (b : ℕ) → b < blockCount x → Formed s x b
-  block-formed b l = formed s x b (is-lowest (illBlock s x) (blockCount x) .before b (omega (arith, whole)))
 
   pub node-under : (n : ℕ) (e : Effect) → n < x .nodes → (effectUnder s x (nodeAt x n) e ≡ true) ↔ (Node n × AtMost permits (node n) e)
   node-under n e l = (

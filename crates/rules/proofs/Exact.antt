@@ -1,5 +1,5 @@
 -- The lowest rule that the tests find broken is the lowest that is: every lower one holds, and it does not.
-use Prim.Native.Nat.{ℕ, suc, _+_, _≤_, _<_, min}
+use Prim.Native.Nat.{ℕ, suc, _+_, _≤_, _<_}
 use mathlib.Core.Path.{_≡_, refl, sym, ap, subst, _∙_}
 use mathlib.Core.Logic.{_↔_}
 use mathlib.Core.Bool.{Bool, true, false, cond}
@@ -21,42 +21,38 @@ use Rattle.model.specs.Stocks.{permits}
 use Rattle.model.proofs.Demands.{Demands, demands, demanded}
 use Rattle.rounds.specs.Rounds.{roundsOf, wholeOf}
 use Rattle.tables.specs.declared.Tables.{Tables}
+use Rattle.tables.specs.declared.Table.{Table}
+use Rattle.tables.specs.declared.Table.the-variants.{Trailer, Methods, Nodes, Flow, Calls, Catches, Opening}
+use Rattle.tables.specs.Rows.{rowsOf}
 use Rattle.tables.specs.Trailer.{tablesOf}
 use Rattle.tables.specs.Kinds.{returnKind, throwKind}
 use Rattle.tables.specs.Fields.{nodeMethod, nodeKind, nodeNumber, nodeCount, flowFrom, flowTo, callNode, callMethod, catchFrom, catchException, catchTo}
 use Rattle.refuse.proofs.Fit.{node-fit, call-fit, catch-fit}
 use Rattle.graph.specs.Judge.{judgeOf}
-use Rattle.graph.specs.Judgement.{shapeOf}
-use Rattle.graph.specs.Graph.{graphOf}
+use Rattle.graph.specs.Graph.{OfKind, graphOf}
 use Rattle.graph.proofs.Passed.{Judged, judged}
 use Rattle.graph.proofs.Whole.{limits}
 use Rattle.rows.specs.Rows.{uncaughtOf}
-use Rattle.rows.proofs.Caught.{uncaught-true, uncaught-false}
-use Rattle.nodes.specs.Nodes.{openingIn}
+use Rattle.graph.proofs.Caught.{uncaught-true, uncaught-false}
+use Rattle.nodes.specs.Nodes.{doesIn, openingIn}
+use Rattle.graph.specs.Judgement.{shapeOf}
 use Rattle.nodes.proofs.Setting.{setting}
 use Rattle.layout.specs.declared.Shape.{Shape}
 use Rattle.layout.specs.Layout.{exitAt, nodeAt, blockCount}
+use Rattle.sheet.specs.Read.{marked}
 use Rattle.formed.specs.Ill.{firstIll}
 use Rattle.demand.specs.declared.Called.{Called}
-use Rattle.demand.specs.Demand.{marked, entryDemand, flowDemand, catchDemand, nodeDemand, calledIn, thrownIn}
-use Rattle.rules.specs.declared.Source.{Source}
-use Rattle.rules.specs.declared.Source.the-variants.{Start, Entries, Flow, Catches, Nodes, Calls}
-use Rattle.rules.specs.Tests.{effectUnder, met, startUnder, afterCall, intoCall, caughtUnder}
-use Rattle.rules.specs.Broken.{brokenIf, leavingBroken, thrownBroken, calledBroken, callBroken, nodeBroken, countOf, brokenAt, brokenIn, brokenOf}
-use Rattle.rules.specs.Sheet.{sheetIn, Holds}
-use Rattle.rules.proofs.Blocks.{mark-true, true-mark, exit-under, method-under}
+use Rattle.demand.specs.Demand.{tableAt, entryDemand, flowDemand, catchDemand, nodeDemand, calledIn, thrownIn}
+use Rattle.sheet.proofs.Marked.{mark-true, true-mark}
+use Rattle.sheet.specs.Under.{effectUnder}
+use Rattle.formed.specs.Sheet.{sheetIn}
+use Rattle.rules.specs.Tests.{met, startUnder, afterCall, intoCall, caughtUnder}
+use Rattle.rules.specs.Broken.{brokenIf, leavingBroken, thrownBroken, calledBroken, callBroken, nodeBroken, brokenAt, brokenIn, brokenOf}
+use Rattle.rules.specs.Sheet.{Holds}
+use Rattle.words.proofs.Least.{least-under, least-hit}
+use Rattle.rules.proofs.Blocks.{exit-under, method-under}
 use Rattle.rules.proofs.Asked.{holds-above, fails-at, true-false}
 use Rattle.rules.proofs.Row.{NodeAsks, entry-row, flow-row, catch-row, node-row, after-row, into-row, caught-row}
-
--- the least of six, and which of them it is
-under-six : (a b c d e g : ℕ) → let m = min a (min b (min c (min d (min e g)))) in (m ≤ a) × (m ≤ b) × (m ≤ c) × (m ≤ d) × (m ≤ e) × (m ≤ g)
-under-six a b c d e g = (omega arith, omega arith, omega arith, omega arith, omega arith, omega arith)
-
-min-keeps : (P : ℕ → Type 0) (a b : ℕ) → P a → P b → P (min a b)
-min-keeps P a b p q = elim (decLe a b) [
-  | yes h ↦ let e : a ≡ min a b = omega arith in subst P e p
-  | no h ↦ let e : b ≡ min a b = omega arith in subst P e q
-]
 
 -- what a marked call row breaks, test by test
 module _ (a b : Bool) (l : ℕ) where
@@ -108,19 +104,23 @@ module _ (f : List ℕ) (pass : judgeOf f ≡ Pass) (s : List ℕ) (whole : firs
   not-return : {k : ℕ} → k ≡ throwKind → k ≡ returnKind → ⊥
   not-return p q = omega arith
 
+  -- a throw's exception is one of the eight
+  eight : (n : ℕ) → OfKind f t throwKind n → nodeNumber f t n < 8
+  eight n h = omega (arith, node-fit f t n (j .nodes n (h .0)) .exception (h .1))
+
   -- the two ways to say that nothing catches
-  caught-not : (n e : ℕ) → Uncaught (graphOf f) n e → uncaughtOf f t n e ≡ true
-  caught-not n e u = go (uncaughtOf f t n e) refl
+  caught-not : (n e : ℕ) → e < 8 → Uncaught (graphOf f) n e → uncaughtOf f t n e ≡ true
+  caught-not n e small u = go (uncaughtOf f t n e) refl
     where
       go : (b : Bool) → uncaughtOf f t n e ≡ b → uncaughtOf f t n e ≡ true
       go true q = q
-      go false q = let w = uncaught-false f t n e q in absurd (u (w .0) (w .1))
+      go false q = let w = uncaught-false f t j n e small q in absurd (u (w .0) (w .1))
 
-  caught-some : (n e h : ℕ) → graphOf f .Catch n e h → uncaughtOf f t n e ≡ false
-  caught-some n e h w = go (uncaughtOf f t n e) refl
+  caught-some : (n e h : ℕ) → e < 8 → graphOf f .Catch n e h → uncaughtOf f t n e ≡ false
+  caught-some n e h small w = go (uncaughtOf f t n e) refl
     where
       go : (b : Bool) → uncaughtOf f t n e ≡ b → uncaughtOf f t n e ≡ false
-      go true q = absurd (uncaught-true f t n e q h w)
+      go true q = absurd (uncaught-true f t j n e small q h w)
       go false q = q
 
   -- what a call row gives is what the rules name
@@ -201,26 +201,28 @@ module _ (f : List ℕ) (pass : judgeOf f ≡ Pass) (s : List ℕ) (whole : firs
     unfolding leavingBroken
     leave-uncaught e y u = rw u refl
 
-  below : (source : Source) → brokenOf f t (shapeOf t) s ≤ brokenIn f t (shapeOf t) s source
+  abbrev broken : ℕ → ℕ
+  broken i = brokenIn f t (shapeOf t) s (tableAt i)
+
+  start-below : brokenOf f t (shapeOf t) s ≤ brokenIf (startUnder f t (shapeOf t) s) 1
   unfolding brokenOf
-  below Start = under-six _ _ _ _ _ _ .0
-  below Entries = under-six (brokenIn f t (shapeOf t) s Start) _ _ _ _ _ .1
-  below Flow = under-six (brokenIn f t (shapeOf t) s Start) (brokenIn f t (shapeOf t) s Entries) _ _ _ _ .2
-  below Catches = under-six (brokenIn f t (shapeOf t) s Start) (brokenIn f t (shapeOf t) s Entries) (brokenIn f t (shapeOf t) s Flow) _ _ _ .3
-  below Nodes = under-six (brokenIn f t (shapeOf t) s Start) (brokenIn f t (shapeOf t) s Entries) (brokenIn f t (shapeOf t) s Flow) (brokenIn f t (shapeOf t) s Catches) _ _ .4
-  below Calls = under-six (brokenIn f t (shapeOf t) s Start) (brokenIn f t (shapeOf t) s Entries) (brokenIn f t (shapeOf t) s Flow) (brokenIn f t (shapeOf t) s Catches) (brokenIn f t (shapeOf t) s Nodes) _ .5
+  start-below = omega arith
+
+  table-below : (i : ℕ) → i < 5 → brokenOf f t (shapeOf t) s ≤ broken i
+  unfolding brokenOf
+  table-below i l = omega (arith, least-under 11 broken 5 i l)
 
   -- Every rule below the lowest broken one holds.
   module _ (q : ℕ) (low : q < brokenOf f t (shapeOf t) s) where
-    ok : (source : Source) (k : ℕ) → k < countOf t source → q < brokenAt f t (shapeOf t) s source k
-    ok source k l = omega (arith, below source, least-under 11 (brokenAt f t (shapeOf t) s source) (countOf t source) k l)
+    ok : (i : ℕ) → i < 5 → (k : ℕ) → k < rowsOf t (tableAt i) → q < brokenAt f t (shapeOf t) s (tableAt i) k
+    ok i h k l = omega (arith, table-below i h, least-under 11 (brokenAt f t (shapeOf t) s (tableAt i)) (rowsOf t (tableAt i)) k l)
 
     node-ok : (n : ℕ) → n < t .nodes → cond (eqb (nodeKind f t n) returnKind) 5 6 ≤ q → NodeAsks f pass s whole n
     unfolding nodeBroken
-    node-ok n l r = node-row f pass s whole n l .0 (holds-above _ (cond (eqb (nodeKind f t n) returnKind) 5 6) q r (ok Nodes n l))
+    node-ok n l r = node-row f pass s whole n l .0 (holds-above _ (cond (eqb (nodeKind f t n) returnKind) 5 6) q r (ok 3 (omega arith) n l))
 
     call-ok : (k : ℕ) (l : k < t .calls) → T .Node (callNode f t k) → q < marked-row k l
-    call-ok k l y = omega (arith, row-is k l y, ok Calls k l)
+    call-ok k l y = omega (arith, row-is k l y, ok 4 (omega arith) k l)
 
     -- 9 and 10: what each exception of a marked call breaks is above q
     thrown-ok : (k : ℕ) (l : k < t .calls) → T .Node (callNode f t k) → 8 < q → (e : ℕ) → T .Exit (callMethod f t k) (suc e)
@@ -233,16 +235,16 @@ module _ (f : List ℕ) (pass : judgeOf f ≡ Pass) (s : List ℕ) (whole : firs
     good : Asks q
     unfolding startUnder
     good = record {
-      at-start = λ e. method-under (shapeOf t) s whole 0 (openingIn f t) (limits f pass .some-method) .0 (holds-above _ 1 q (omega arith) (ok Start 0 (omega arith)));
-      at-entry = λ e m l. entry-row f pass s whole m l .0 (holds-above _ 2 q (omega arith) (ok Entries m l));
+      at-start = λ e. method-under (shapeOf t) s whole 0 (openingIn f t) (limits f pass .some-method) .0 (holds-above _ 1 q (omega arith) (omega (arith, start-below)));
+      at-entry = λ e m l. entry-row f pass s whole m l .0 (holds-above _ 2 q (omega arith) (ok 0 (omega arith) m l));
       along-flow = λ e a b g y w.
-          rw (← w .2, ← w .3) (flow-row f pass s whole (w .0) (w .1) .0 (holds-above _ 3 q (omega arith) (ok Flow (w .0) (w .1))) (rw (w .2) (g .1)) (rw (w .2) y));
+          rw (← w .2, ← w .3) (flow-row f pass s whole (w .0) (w .1) .0 (holds-above _ 3 q (omega arith) (ok 1 (omega arith) (w .0) (w .1))) (rw (w .2) (g .1)) (rw (w .2) y));
       to-handler = λ e a x b g y w.
-          rw (← w .2, ← w .4) (catch-row f pass s whole (w .0) (w .1) .0 (holds-above _ 4 q (omega arith) (ok Catches (w .0) (w .1))) (rw (w .2) (g .0 .1)) (rw (w .2) y));
+          rw (← w .2, ← w .4) (catch-row f pass s whole (w .0) (w .1) .0 (holds-above _ 4 q (omega arith) (ok 2 (omega arith) (w .0) (w .1))) (rw (w .2) (g .0 .1)) (rw (w .2) y));
       at-return = λ e a g y. node-ok a (g .0) (simp (eq-eqb _ _ (g .1)) (omega arith)) .returning (g .1) y;
       at-throw = λ e a x g y u.
           subst (λ z. T .Exit (nodeMethod f t a) z × AtMost permits (T .exit (nodeMethod f t a) z) (T .node a)) (one-add (nodeNumber f t a) ∙ ap suc (g .1))
-          (node-ok a (g .0 .0) (simp (ne-eqb _ _ (λ r. not-return (g .0 .1) r)) (omega arith)) .throwing (g .0 .1) y (caught-not a (nodeNumber f t a) (rw (g .1) u)));
+          (node-ok a (g .0 .0) (simp (ne-eqb _ _ (λ r. not-return (g .0 .1) r)) (omega arith)) .throwing (g .0 .1) y (caught-not a (nodeNumber f t a) (eight a (g .0)) (rw (g .1) u)));
       after-call = λ e c m b g y w x v.
           let k = w .0 in
           let n : T .Node (callNode f t k) = rw (w .2) y in
@@ -262,7 +264,7 @@ module _ (f : List ℕ) (pass : judgeOf f ≡ Pass) (s : List ℕ) (whole : firs
           let k = w .0 in
           let n : T .Node (callNode f t k) = rw (w .2) y in
           let z′ : T .Exit (callMethod f t k) (suc x) = rw (w .3) z in
-          let u : uncaughtOf f t (C k (w .1) .node) x ≡ false = rw (node-is k (w .1), w .2) (caught-some c x b v) in
+          let u : uncaughtOf f t (C k (w .1) .node) x ≡ false = rw (node-is k (w .1), w .2) (caught-some c x b (omega (arith, z .1)) v) in
           let h = holds-above (caughtUnder f t (shapeOf t) s (C k (w .1) .node) x (thrownIn (shapeOf t) s (C k (w .1)) x)) 9 q (omega arith) (omega (arith, thrown-ok k (w .1) n (omega arith) x z′, leave-caught k (w .1) x (thrownIn (shapeOf t) s (C k (w .1)) x) u)) in
           rw (← v .4, ← w .2, ← w .3)
           (subst (λ o. T .Node (catchTo f t (v .0)) × AtMost permits (T .node (catchTo f t (v .0))) o) (thrown-is k (w .1) x n)
@@ -271,7 +273,7 @@ module _ (f : List ℕ) (pass : judgeOf f ≡ Pass) (s : List ℕ) (whole : firs
           let k = w .0 in
           let n : T .Node (callNode f t k) = rw (w .2) y in
           let z′ : T .Exit (callMethod f t k) (suc x) = rw (w .3) z in
-          let u′ : uncaughtOf f t (C k (w .1) .node) x ≡ true = rw (node-is k (w .1), w .2) (caught-not c x u) in
+          let u′ : uncaughtOf f t (C k (w .1) .node) x ≡ true = rw (node-is k (w .1), w .2) (caught-not c x (omega (arith, z .1)) u) in
           let h = holds-above (effectUnder s (shapeOf t) (exitAt (shapeOf t) (nodeMethod f t (C k (w .1) .node)) (1 + x)) (thrownIn (shapeOf t) s (C k (w .1)) x)) 10 q (omega arith) (omega (arith, thrown-ok k (w .1) n (omega arith) x z′, leave-uncaught k (w .1) x (thrownIn (shapeOf t) s (C k (w .1)) x) u′)) in
           rw (← w .2, ← w .3)
           (exit-under (shapeOf t) s whole (nodeMethod f t (callNode f t k)) (suc x) (thenOf (before k (w .1)) (T .exit (callMethod f t k) (suc x))) (method-of k (w .1)) (z .1) .0
@@ -279,12 +281,6 @@ module _ (f : List ℕ) (pass : judgeOf f ≡ Pass) (s : List ℕ) (whole : firs
     }
 
   -- The lowest broken rule does not hold.
-  which : (source : Source) × (brokenIn f t (shapeOf t) s source ≡ brokenOf f t (shapeOf t) s)
-  unfolding brokenOf
-  which =
-      let P : ℕ → Type 0 = λ v. (source : Source) × (brokenIn f t (shapeOf t) s source ≡ v) in
-      min-keeps P _ _ (Start, refl)
-      (min-keeps P _ _ (Entries, refl) (min-keeps P _ _ (Flow, refl) (min-keeps P _ _ (Catches, refl) (min-keeps P _ _ (Nodes, refl) (Calls, refl)))))
 
   -- a call that is not marked breaks nothing
   unmarked-row : (k : ℕ) → marked s (nodeAt (shapeOf t) (callNode f t k)) ≡ false → callBroken f t (shapeOf t) s k ≡ 11
@@ -307,7 +303,7 @@ module _ (f : List ℕ) (pass : judgeOf f ≡ Pass) (s : List ℕ) (whole : firs
           let r = fails-at (effectUnder s (shapeOf t) (exitAt (shapeOf t) (nodeMethod f t (C k l .node)) (1 + e)) o) 10 (omega (arith, leave-uncaught k l e o u)) in
           let ten : q ≡ 10 = omega (arith, leave-uncaught k l e o u, r .1) in
           let u′ : uncaughtOf f t (callNode f t k) e ≡ true = rw (← node-is k l) u in
-          let p = d .through-call ten (callNode f t k) (callMethod f t k) e (called k l) y (k, l, refl, refl) x (uncaught-true f t (callNode f t k) e u′) in
+          let p = d .through-call ten (callNode f t k) (callMethod f t k) e (called k l) y (k, l, refl, refl) x (uncaught-true f t j (callNode f t k) e small u′) in
           let w = exit-under (shapeOf t) s whole (nodeMethod f t (callNode f t k)) (suc e) (thenOf (before k l) (T .exit (callMethod f t k) (suc e))) (method-of k l) (omega arith) .1 p in
           true-false ((λ i. effectUnder s (shapeOf t) (exitAt (shapeOf t) (nodeMethod f t (node-is k l i)) (one-add e i)) (thrown-is k l e y i)) ∙ w) (r .0)
       go false u =
@@ -353,12 +349,11 @@ module _ (f : List ℕ) (pass : judgeOf f ≡ Pass) (s : List ℕ) (whole : firs
           r
       go true p true r = thrown-wrong (sym (rw (p, r) refl) ∙ h)
 
-  wrong : (source : Source) (k : ℕ) → k < countOf t source → (q : ℕ) → brokenAt f t (shapeOf t) s source k ≡ q → q < 11 → Asks q → ⊥
-  unfolding startUnder nodeBroken callBroken calledBroken
-  wrong Start k l q e low d =
-      let r = fails-at (startUnder f t (shapeOf t) s) 1 (omega arith) in
-      true-false (method-under (shapeOf t) s whole 0 (openingIn f t) (limits f pass .some-method) .1 (d .at-start (sym e ∙ r .1))) (r .0)
-  wrong Entries k l q e low d =
+  wrong : (table : Table) (k : ℕ) → k < rowsOf t table → (q : ℕ) → brokenAt f t (shapeOf t) s table k ≡ q → q < 11 → Asks q → ⊥
+  unfolding nodeBroken callBroken calledBroken
+  wrong Trailer k l q e low d = omega arith
+  wrong Opening k l q e low d = omega arith
+  wrong Methods k l q e low d =
       let r = fails-at (met s (shapeOf t) (entryDemand f (shapeOf t) k)) 2 (omega arith) in
       true-false (entry-row f pass s whole k l .1 (d .at-entry (sym e ∙ r .1) k l)) (r .0)
   wrong Flow k l q e low d =
@@ -376,7 +371,7 @@ module _ (f : List ℕ) (pass : judgeOf f ≡ Pass) (s : List ℕ) (whole : firs
         returning = λ k y. d .at-return (sym e ∙ r .1 ∙ simp (eq-eqb _ _ k)) n (l, k) y;
         throwing = λ k y u.
             subst (λ z. T .Exit (nodeMethod f t n) z × AtMost permits (T .exit (nodeMethod f t n) z) (T .node n)) (sym (one-add (nodeNumber f t n)))
-            (d .at-throw (sym e ∙ r .1 ∙ simp (ne-eqb _ _ (λ z. not-return k z))) n (nodeNumber f t n) ((l, k), refl) y (uncaught-true f t n (nodeNumber f t n) u));
+            (d .at-throw (sym e ∙ r .1 ∙ simp (ne-eqb _ _ (λ z. not-return k z))) n (nodeNumber f t n) ((l, k), refl) y (uncaught-true f t j n (nodeNumber f t n) (eight n (l, k)) u));
       }))
       (r .0)
   wrong Calls k l q e low d = go (marked s (nodeAt (shapeOf t) (callNode f t k))) refl
@@ -387,11 +382,21 @@ module _ (f : List ℕ) (pass : judgeOf f ≡ Pass) (s : List ℕ) (whole : firs
           call-wrong k l y q (sym (row-is k l y) ∙ e) low d
       go false m = absurd (omega (arith, unmarked-row k m))
 
+  wrong-start : (q : ℕ) → brokenIf (startUnder f t (shapeOf t) s) 1 ≡ q → q < 11 → Asks q → ⊥
+  unfolding startUnder
+  wrong-start q e low d =
+      let r = fails-at (startUnder f t (shapeOf t) s) 1 (omega arith) in
+      true-false (method-under (shapeOf t) s whole 0 (openingIn f t) (limits f pass .some-method) .1 (d .at-start (sym e ∙ r .1))) (r .0)
+
   bad : brokenOf f t (shapeOf t) s < 11 → Asks (brokenOf f t (shapeOf t) s) → ⊥
-  bad low d =
-      let w = which in
-      let h = least-hit 11 (brokenAt f t (shapeOf t) s (w .0)) (countOf t (w .0)) (omega (arith, w .1)) in
-      wrong (w .0) (h .0) (h .1) (brokenOf f t (shapeOf t) s) (h .2 ∙ w .1) low d
+  unfolding brokenOf
+  bad low d = elim (decLe (brokenIf (startUnder f t (shapeOf t) s) 1) (leastOf 11 broken 5)) [
+    | yes h ↦ wrong-start _ (omega arith) low d
+    | no h ↦
+        let w = least-hit 11 broken 5 (omega arith) in
+        let r = least-hit 11 (brokenAt f t (shapeOf t) s (tableAt (w .0))) (rowsOf t (tableAt (w .0))) (omega (arith, w .2)) in
+        wrong (tableAt (w .0)) (r .0) (r .1) _ (omega (arith, r .2, w .2)) low d
+  ]
 
   -- so of the rules themselves
   pub rules-below : (q : ℕ) → q < brokenOf f t (shapeOf t) s → Holds f s q

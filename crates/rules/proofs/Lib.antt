@@ -1,4 +1,3 @@
-pub mod Rows
 pub mod Blocks
 pub mod Asked
 pub mod Row

@@ -1,5 +1,5 @@
 -- What the test of one row says, and that it holds where that is so. The file passes, and no block of the sheet is ill formed.
-use Prim.Native.Nat.{ℕ, _+_, _*_, _-_, _≤_, _<_}
+use Prim.Native.Nat.{ℕ, _+_, _≤_, _<_}
 use mathlib.Core.Path.{_≡_, refl, sym, _∙_}
 use mathlib.Core.Logic.{_↔_}
 use mathlib.Core.Bool.{Bool, true, false, cond}
@@ -12,28 +12,30 @@ use Rattle.effect.specs.Whole.{nothingDone, thenOf, applyOf}
 use Rattle.model.specs.Rules.{Sheet, Below, AtMost}
 use Rattle.model.specs.Stocks.{permits, stepOf}
 use Rattle.tables.specs.declared.Tables.{Tables}
+use Rattle.tables.specs.declared.Table.{Table}
+use Rattle.tables.specs.declared.Table.the-variants.{Flow, Catches}
 use Rattle.tables.specs.Trailer.{tablesOf}
 use Rattle.tables.specs.Kinds.{drawKind, returnKind, throwKind}
 use Rattle.tables.specs.Fields.{entryOf, nodeMethod, nodeKind, nodeNumber, flowFrom, flowTo, catchFrom, catchException, catchTo}
 use Rattle.refuse.proofs.Fit.{entry-fit, node-fit, flow-fit, catch-fit}
 use Rattle.graph.specs.Judge.{judgeOf}
-use Rattle.graph.specs.Judgement.{shapeOf}
 use Rattle.graph.proofs.Passed.{Judged, judged}
-use Rattle.rows.specs.declared.Sorted.the-variants as sorted
-use Rattle.rows.specs.Rows.{firstRow, keyOf, uncaughtOf}
-use Rattle.rows.proofs.Stretch.{in-stretch, of-stretch}
-use Rattle.rows.proofs.Caught.{catch-says, key-row}
+use Rattle.graph.proofs.Rises.{rises}
+use Rattle.graph.proofs.Caught.{in-catches, of-catches}
+use Rattle.rows.specs.declared.Stretch.{Stretch}
+use Rattle.rows.specs.Rows.{flowOf, uncaughtOf, targetOf, allIn}
+use Rattle.rows.proofs.Stretches.{In, in-stretch, of-stretch, all-in, in-all}
+use Rattle.graph.specs.Judgement.{shapeOf}
 use Rattle.nodes.specs.Nodes.{doesIn}
 use Rattle.layout.specs.Layout.{methodAt, exitAt, nodeAt, blockCount}
 use Rattle.formed.specs.Ill.{firstIll}
 use Rattle.demand.specs.declared.Called.{Called}
 use Rattle.demand.specs.Demand.{entryDemand, flowDemand, catchDemand, returnDemand, throwDemand, leaveDemand, nodeDemand}
-use Rattle.rules.specs.declared.Leads.{Leads}
-use Rattle.rules.specs.declared.Leads.the-variants as leads
-use Rattle.rules.specs.Tests.{stockUnder, met, targetOf, targetUnder, allFor, afterCall, intoCall, caughtUnder}
-use Rattle.rules.specs.Sheet.{sheetIn}
-use Rattle.rules.proofs.Rows.{all-true, all-at}
-use Rattle.rules.proofs.Blocks.{mark-true, true-mark, node-under, exit-under, method-under}
+use Rattle.sheet.proofs.Marked.{mark-true, true-mark}
+use Rattle.sheet.specs.Under.{stockUnder}
+use Rattle.formed.specs.Sheet.{sheetIn}
+use Rattle.rules.specs.Tests.{met, targetUnder, afterCall, intoCall, caughtUnder}
+use Rattle.rules.proofs.Blocks.{node-under, exit-under, method-under}
 use Rattle.rules.proofs.Asked.{met-asked, met-unasked, if-true, if-make, first-true, second-true, choice-make}
 
 module _ (f : List ℕ) (pass : judgeOf f ≡ Pass) (s : List ℕ) (whole : firstIll s (shapeOf (tablesOf f)) ≡ blockCount (shapeOf (tablesOf f))) where
@@ -112,20 +114,19 @@ module _ (f : List ℕ) (pass : judgeOf f ≡ Pass) (s : List ℕ) (whole : firs
             (λ k. met-unasked (shapeOf t) s))),
       )
 
-  -- each row of a stretch of the flow or of the catches leads to a node that is marked and at most y
-  rows-say : (table : Leads) (y : Effect) (a b : ℕ) → allFor (targetUnder f t (shapeOf t) s table y) a (b - a) ≡ true
-      → (k : ℕ) → a ≤ k → k < b → targetOf f t table k < t .nodes → T .Node (targetOf f t table k) × AtMost permits (T .node (targetOf f t table k)) y
+  -- each row of a stretch leads to a node that is marked and at most y
+  rows-say : (table : Table) (y : Effect) (r : Stretch) → allIn (targetUnder f t (shapeOf t) s table y) r ≡ true
+      → (k : ℕ) → In r k → targetOf f t table k < t .nodes → T .Node (targetOf f t table k) × AtMost permits (T .node (targetOf f t table k)) y
   unfolding targetUnder
-  rows-say table y a b h k l m n =
-      node-under (shapeOf t) s whole (targetOf f t table k) y n .0 (all-at (targetUnder f t (shapeOf t) s table y) a (b - a) h k l (omega arith))
+  rows-say table y r h k i n = node-under (shapeOf t) s whole (targetOf f t table k) y n .0 (all-in (targetUnder f t (shapeOf t) s table y) r h k i)
 
-  say-rows : (table : Leads) (y : Effect) (a b : ℕ)
-      → ((k : ℕ) → a ≤ k → k < b → (targetOf f t table k < t .nodes) × T .Node (targetOf f t table k) × AtMost permits (T .node (targetOf f t table k)) y)
-      → allFor (targetUnder f t (shapeOf t) s table y) a (b - a) ≡ true
+  say-rows : (table : Table) (y : Effect) (r : Stretch)
+      → ((k : ℕ) → In r k → (targetOf f t table k < t .nodes) × T .Node (targetOf f t table k) × AtMost permits (T .node (targetOf f t table k)) y)
+      → allIn (targetUnder f t (shapeOf t) s table y) r ≡ true
   unfolding targetUnder
-  say-rows table y a b h =
-      all-true (targetUnder f t (shapeOf t) s table y) a (b - a)
-      (λ k l m. let p = h k l (omega arith) in node-under (shapeOf t) s whole (targetOf f t table k) y (p .0) .1 (p .1, p .2))
+  say-rows table y r h =
+      in-all (targetUnder f t (shapeOf t) s table y) r
+      (λ k i. let p = h k i in node-under (shapeOf t) s whole (targetOf f t table k) y (p .0) .1 (p .1, p .2))
 
   -- 7, of a marked call
   pub after-row : (c : Called) → (afterCall f t (shapeOf t) s c ≡ true)
@@ -133,27 +134,19 @@ module _ (f : List ℕ) (pass : judgeOf f ≡ Pass) (s : List ℕ) (whole : firs
   unfolding afterCall
   after-row c = (says (c .returns), makes (c .returns))
     where
-      a : ℕ
-      a = firstRow f t sorted.Flow (c .node)
-
-      b : ℕ
-      b = firstRow f t sorted.Flow (c .node + 1)
-
-      says : (r : Bool) → cond r (allFor (targetUnder f t (shapeOf t) s leads.Flow (c .rounds .whole)) a (b - a)) true ≡ true
+      says : (r : Bool) → cond r (allIn (targetUnder f t (shapeOf t) s Flow (c .rounds .whole)) (flowOf f t (c .node))) true ≡ true
           → r ≡ true → (k : ℕ) → k < t .flows → flowFrom f t k ≡ c .node → T .Node (flowTo f t k) × AtMost permits (T .node (flowTo f t k)) (c .rounds .whole)
-      says true h q k l e =
-          let i = in-stretch f t pass sorted.Flow (c .node) k l e in
-          rows-say leads.Flow (c .rounds .whole) a b h k (i .0) (i .1) (flow-fit f t k (j .flows k l) .to)
+      says true h q k l e = rows-say Flow (c .rounds .whole) _ h k (in-stretch f t Flow (rises f t j Flow) (c .node) k l e) (flow-fit f t k (j .flows k l) .to)
       says false h q k l e = let z : _≡_ {A = ℕ} 0 1 = cc in absurd (omega arith)
 
       makes : (r : Bool) → (r ≡ true → (k : ℕ) → k < t .flows → flowFrom f t k ≡ c .node → T .Node (flowTo f t k) × AtMost permits (T .node (flowTo f t k)) (c .rounds .whole))
-          → cond r (allFor (targetUnder f t (shapeOf t) s leads.Flow (c .rounds .whole)) a (b - a)) true ≡ true
+          → cond r (allIn (targetUnder f t (shapeOf t) s Flow (c .rounds .whole)) (flowOf f t (c .node))) true ≡ true
       makes true h =
-          say-rows leads.Flow (c .rounds .whole) a b
-          (λ k l m.
-          let i = of-stretch f t pass sorted.Flow (c .node) k l m in
-          let p = h refl k (i .0) (i .1) in
-          (flow-fit f t k (j .flows k (i .0)) .to, p .0, p .1))
+          say-rows Flow (c .rounds .whole) _
+          (λ k i.
+          let r = of-stretch f t Flow (rises f t j Flow) (c .node) k i in
+          let p = h refl k (r .0) (r .1) in
+          (flow-fit f t k (j .flows k (r .0)) .to, p .0, p .1))
       makes false h = refl
 
   -- 8, of a marked call
@@ -181,14 +174,10 @@ module _ (f : List ℕ) (pass : judgeOf f ≡ Pass) (s : List ℕ) (whole : firs
       ↔ ((k : ℕ) → k < t .catches → catchFrom f t k ≡ n → catchException f t k ≡ e → T .Node (catchTo f t k) × AtMost permits (T .node (catchTo f t k)) y)
   unfolding caughtUnder
   caught-row n e y small = (
-    λ h k l p q.
-        let key : keyOf f t sorted.Catches k ≡ 8 * n + e = omega arith in
-        let i = in-stretch f t pass sorted.Catches (8 * n + e) k l key in
-        rows-say leads.Catches y _ _ h k (i .0) (i .1) (catch-fit f t k (j .catches k l) .to),
-    λ h. say-rows leads.Catches y _ _
-        (λ k l m.
-        let i = of-stretch f t pass sorted.Catches (8 * n + e) k l m in
-        let w = catch-says f t n e k (key-row f t n e pass small k (i .0) (i .1)) in
-        let p = h k (i .0) (w .0) (w .1) in
-        (catch-fit f t k (j .catches k (i .0)) .to, p .0, p .1)),
+    λ h k l p q. rows-say Catches y _ h k (in-catches f t j n e small k l p q) (catch-fit f t k (j .catches k l) .to),
+    λ h. say-rows Catches y _
+        (λ k i.
+        let r = of-catches f t j n e small k i in
+        let p = h k (r .0) (r .1) (r .2) in
+        (catch-fit f t k (j .catches k (r .0)) .to, p .0, p .1)),
   )

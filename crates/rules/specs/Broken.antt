@@ -6,16 +6,19 @@ use lib.Dec.{eqb}
 use Rattle.words.specs.Least.{leastOf}
 use Rattle.effect.specs.declared.Effect.{Effect}
 use Rattle.tables.specs.declared.Tables.{Tables}
+use Rattle.tables.specs.declared.Table.{Table}
+use Rattle.tables.specs.declared.Table.the-variants.{Trailer, Methods, Nodes, Flow, Calls, Catches, Opening}
+use Rattle.tables.specs.Rows.{rowsOf}
 use Rattle.tables.specs.Kinds.{returnKind}
 use Rattle.tables.specs.Fields.{nodeMethod, nodeKind}
 use Rattle.rows.specs.Rows.{uncaughtOf}
 use Rattle.layout.specs.declared.Shape.{Shape}
 use Rattle.layout.specs.Layout.{exitAt}
+use Rattle.sheet.specs.Read.{marked}
 use Rattle.demand.specs.declared.Called.{Called}
-use Rattle.demand.specs.Demand.{marked, entryDemand, flowDemand, catchDemand, nodeDemand, calledIn, thrownIn}
-use Rattle.rules.specs.declared.Source.{Source}
-use Rattle.rules.specs.declared.Source.the-variants.{Start, Entries, Flow, Catches, Nodes, Calls}
-use Rattle.rules.specs.Tests.{effectUnder, met, startUnder, afterCall, intoCall, caughtUnder}
+use Rattle.demand.specs.Demand.{tableAt, entryDemand, flowDemand, catchDemand, nodeDemand, calledIn, thrownIn}
+use Rattle.sheet.specs.Under.{effectUnder}
+use Rattle.rules.specs.Tests.{met, startUnder, afterCall, intoCall, caughtUnder}
 
 -- 11, or r where the test of rule r fails
 abbrev pub brokenIf : Bool → ℕ → ℕ
@@ -44,30 +47,19 @@ callBroken f t x s k = calledBroken f t x s (calledIn f t x s k)
 unfoldable pub nodeBroken : List ℕ → Tables → Shape → List ℕ → ℕ → ℕ
 nodeBroken f t x s n = brokenIf (met s x (nodeDemand f t x s n)) (cond (eqb (nodeKind f t n) returnKind) 5 6)
 
--- how many rows each source has
-abbrev pub countOf : Tables → Source → ℕ
-countOf t Start = 1
-countOf t Entries = t .methods
-countOf t Flow = t .flows
-countOf t Catches = t .catches
-countOf t Nodes = t .nodes
-countOf t Calls = t .calls
-
--- the lowest rule that row k of the source breaks
-abbrev pub brokenAt : List ℕ → Tables → Shape → List ℕ → Source → ℕ → ℕ
-brokenAt f t x s Start k = brokenIf (startUnder f t x s) 1
-brokenAt f t x s Entries k = brokenIf (met s x (entryDemand f x k)) 2
-brokenAt f t x s Flow k = brokenIf (met s x (flowDemand f t x s k)) 3
-brokenAt f t x s Catches k = brokenIf (met s x (catchDemand f t x s k)) 4
+-- the lowest rule that row k of the table breaks; no rule asks anything of a row of the trailer or of the opening stock
+abbrev pub brokenAt : List ℕ → Tables → Shape → List ℕ → Table → ℕ → ℕ
+brokenAt f t x s Trailer k = 11
+brokenAt f t x s Methods k = brokenIf (met s x (entryDemand f x k)) 2
 brokenAt f t x s Nodes k = nodeBroken f t x s k
+brokenAt f t x s Flow k = brokenIf (met s x (flowDemand f t x s k)) 3
 brokenAt f t x s Calls k = callBroken f t x s k
+brokenAt f t x s Catches k = brokenIf (met s x (catchDemand f t x s k)) 4
+brokenAt f t x s Opening k = 11
 
-abbrev pub brokenIn : List ℕ → Tables → Shape → List ℕ → Source → ℕ
-brokenIn f t x s source = leastOf 11 (brokenAt f t x s source) (countOf t source)
+abbrev pub brokenIn : List ℕ → Tables → Shape → List ℕ → Table → ℕ
+brokenIn f t x s table = leastOf 11 (brokenAt f t x s table) (rowsOf t table)
 
--- the lowest rule that the sheet breaks
+-- the lowest rule that the sheet breaks: rule 1, or one that a row of a table breaks
 unfoldable pub brokenOf : List ℕ → Tables → Shape → List ℕ → ℕ
-brokenOf f t x s =
-    min (brokenIn f t x s Start)
-    (min (brokenIn f t x s Entries)
-    (min (brokenIn f t x s Flow) (min (brokenIn f t x s Catches) (min (brokenIn f t x s Nodes) (brokenIn f t x s Calls)))))
+brokenOf f t x s = min (brokenIf (startUnder f t x s) 1) (leastOf 11 (λ i. brokenIn f t x s (tableAt i)) 5)

@@ -1,4 +1,4 @@
--- The sheet that bytes say, in the place that the rules leave for it.
+-- The sheet of a file, what the rules say of it, and what it says of a node.
 use Prim.Native.Nat.{ℕ, _<_}
 use mathlib.Core.Path.{_≡_}
 use mathlib.Core.Bool.{false}
@@ -14,20 +14,9 @@ use Rattle.graph.specs.Judge.{judgeOf}
 use Rattle.graph.specs.Judgement.{shapeOf}
 use Rattle.nodes.specs.Program.{programOf}
 use Rattle.layout.specs.declared.Shape.{Shape}
-use Rattle.layout.specs.Layout.{methodAt, exitAt, nodeAt, blockCount, sheetBytes}
-use Rattle.sheet.specs.Read.{markAt, stockAt, effectAt}
+use Rattle.layout.specs.Layout.{blockCount, sheetBytes}
 use Rattle.formed.specs.Ill.{illBlock}
-
--- a block is marked if it stands in the sheet and its mark is 1
-abbrev pub sheetIn : Shape → List ℕ → Sheet permits
-sheetIn x s = record {
-  Called = λ m. (m < x .methods) × (markAt s (methodAt x m) ≡ 1);
-  stock = λ m. stockAt s (x .types) (methodAt x m);
-  Exit = λ m e. (m < x .methods) × (e < 9) × (markAt s (exitAt x m e) ≡ 1);
-  exit = λ m e. effectAt s (x .types) (exitAt x m e);
-  Node = λ n. (n < x .nodes) × (markAt s (nodeAt x n) ≡ 1);
-  node = λ n. effectAt s (x .types) (nodeAt x n);
-}
+use Rattle.formed.specs.Sheet.{sheetIn}
 
 -- the shape of the sheet of a file
 abbrev pub shape : List ℕ → Shape

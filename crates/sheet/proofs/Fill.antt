@@ -1,58 +1,103 @@
--- A loop that fills a block with the words of f, one a turn.
-use Prim.Native.Nat.{ℕ, _+_, _-_, _*_, _≤_, _<_}
-use mathlib.Core.Path.{_≡_, refl, sym, ap, _∙_}
-use mathlib.Core.List.{List, [], _++_, append-assoc, append-nil}
-use lib.ListN.{length, take, drop, replicate, drop-of-length-le}
-use lib.Seq.{take-at, drop-drop, drop-append-add}
+-- What loops and literals leave, in a block that is read or written.
+use Prim.Native.Nat.{ℕ, zero, suc, _+_, _*_, _≤_, _<_}
+use mathlib.Core.Path.{_≡_, refl, ap, subst, _∙_}
+use mathlib.Core.Bool.{cond}
+use mathlib.Core.List.{List, [], _∷_, _++_, append-nil}
+use lib.ListN.{length, getD, take, drop, set, replicate, length-set, drop-of-length-le}
+use lib.Dec.{ltb}
+use native.Mathlib.Nat.{not-suc-le-zero, mul-le-mul-left, mul-suc}
+use native.Mathlib.Decide.{decLt}
 use native.Mathlib.Numerals.{add-one}
 use native.Mathlib.Omega.{arith}
-use Rattle.sheet.specs.Write.{splice, wordBytes, bytesOf, blanked}
-use Rattle.sheet.proofs.Splice.{length-bytes, length-splice}
+use Rattle.words.specs.Write.{bytesOf}
+use Rattle.words.proofs.Splice.{bytes-same}
+use Rattle.layout.specs.Layout.{stockSize, effectSize}
+use Rattle.effect.specs.declared.Stock.{Stock}
+use Rattle.effect.specs.declared.Effect.{Effect}
+use Rattle.effect.specs.Six.{six}
+use Rattle.effect.proofs.Six.{below-six}
+use Rattle.sheet.specs.Write.{stockWord, effectWord, stockBytes, effectBytes, laidOut, blanked}
 
--- p is p₀ with its first k words those of f
-pub record Filling (f : ℕ → ℕ) (n : ℕ) (p₀ p : List ℕ) (k : ℕ) : Type 0 where
-  pub some : k ≤ n
-  pub room : length p₀ ≡ 2 * n
-  pub long : length p ≡ 2 * n
-  pub is : p ≡ bytesOf f k ++ drop (2 * k) p₀
+-- the first k of the six are those of f, the others `none`
+abbrev pub upTo : (ℕ → ℕ) → ℕ → ℕ → ℕ → ℕ
+upTo f none k i = cond (ltb i k) (f i) none
 
-pub fill-start : (f : ℕ → ℕ) (n : ℕ) (p : List ℕ) → length p ≡ 2 * n → Filling f n p p 0
-unfolding bytesOf
-fill-start f n p h = record { some = omega arith; room = h; long = h; is = refl }
+more : (f : ℕ → ℕ) (none k : ℕ) → k < 6 → set (six (upTo f none k)) k (f k) ≡ six (upTo f none (k + 1))
+more f none = below-six (λ k. set (six (upTo f none k)) k (f k) ≡ six (upTo f none (k + 1))) refl refl refl refl refl refl
 
-bytes-more : (f : ℕ → ℕ) (k : ℕ) → bytesOf f (k + 1) ≡ bytesOf f k ++ wordBytes (f k)
-unfolding bytesOf
-bytes-more f k = rw add-one
+pub one-more : (f : ℕ → ℕ) (none : ℕ) {l : List ℕ} (k : ℕ) {v : ℕ} → k < 6 → l ≡ six (upTo f none k) → v ≡ f k → set l k v ≡ six (upTo f none (k + 1))
+one-more f none {l} k {v} h p q = (λ i. set (p i) k (q i)) ∙ more f none k h
 
-turn : (f : ℕ → ℕ) (p : List ℕ) (k : ℕ)
-    → splice (bytesOf f k ++ drop (2 * k) p) (2 * k) (wordBytes (f k)) ≡ bytesOf f (k + 1) ++ drop (2 * (k + 1)) p
-turn f p k =
-    let b : List ℕ = bytesOf f k in
-    let q : List ℕ = drop (2 * k) p in
-    let n : length b ≡ 2 * k = length-bytes f k in
-    let n′ : 2 * k + 2 ≡ length b + 2 = omega arith in
-    let n″ : 2 * k + 2 ≡ 2 * (k + 1) = omega arith in
-    let front : take (2 * k) (b ++ q) ≡ b = take-at b q (2 * k) n in
-    let back : drop (2 * k + 2) (b ++ q) ≡ drop (2 * (k + 1)) p
-    = ap (λ (j : ℕ). drop j (b ++ q)) n′ ∙ drop-append-add b q 2 ∙ drop-drop 2 (2 * k) p ∙ ap (λ (j : ℕ). drop j p) n″ in
-    rw (front, back, bytes-more f k) (sym (append-assoc b (wordBytes (f k)) (drop (2 * (k + 1)) p)))
+-- all that the file has
+pub all-read : (f : ℕ → ℕ) (none : ℕ) {l : List ℕ} {t k : ℕ} → k ≤ t → t ≤ k → l ≡ six (upTo f none k) → l ≡ six (upTo f none t)
+all-read f none {l} {t} {k} h g p = let e : t ≡ k = omega arith in rw e p
 
-pub fill-turn : {f : ℕ → ℕ} {n : ℕ} {p₀ p p′ : List ℕ} {k v : ℕ} → Filling f n p₀ p k → k < n → v ≡ f k
-    → p′ ≡ splice p (2 * k) (wordBytes v) → Filling f n p₀ p′ (k + 1)
-fill-turn {f} {n} {p₀} {p} {p′} {k} {v} w l e h =
-    let h′ : p′ ≡ splice p (2 * k) (wordBytes (f k)) = h ∙ ap (λ (u : ℕ). splice p (2 * k) (wordBytes u)) e in
-    record {
-      some = omega arith;
-      room = w .room;
-      long = ap length h′ ∙ length-splice p (2 * k) (wordBytes (f k)) (omega (arith, w .long)) ∙ w .long;
-      is = h′ ∙ ap (λ (q : List ℕ). splice q (2 * k) (wordBytes (f k))) (w .is) ∙ turn f p₀ k;
-    }
+-- the turns of a loop over t types with n words each, at type k
+pub turns : (n : ℕ) {k t : ℕ} → k < t → n * k + n ≤ n * t
+turns n {k} {t} h = rw (mul-suc n k) at (mul-le-mul-left n h)
 
-pub fill-end : {f : ℕ → ℕ} {n : ℕ} {p₀ p : List ℕ} {k : ℕ} → Filling f n p₀ p k → n ≤ k → p ≡ bytesOf f n
-fill-end {f} {n} {p₀} {p} {k} w l =
-    let q : k ≡ n = omega (arith, w .some) in
-    let d : drop (2 * k) p₀ ≡ [] = drop-of-length-le p₀ {i = 2 * k} (omega (arith, w .room)) in
-    w .is ∙ rw d (append-nil (bytesOf f k)) ∙ ap (bytesOf f) q
+-- a field is laid out type by type
+pub laid-none : (v : List ℕ) (n j : ℕ) (c : List ℕ) → v ≡ laidOut v n j c 0
+unfolding laidOut
+laid-none v n j c = refl
+
+pub laid-more : (v : List ℕ) (n j : ℕ) (c : List ℕ) (k : ℕ) {r : List ℕ} → r ≡ laidOut v n j c k → set r (j + n * k) (getD c k 0) ≡ laidOut v n j c (k + 1)
+unfolding laidOut
+laid-more v n j c k {r} e = rw add-one (ap (λ (l : List ℕ). set l (j + n * k) (getD c k 0)) e)
+
+laid-length : (v : List ℕ) (n j : ℕ) (c : List ℕ) (t : ℕ) → length (laidOut v n j c t) ≡ length v
+unfolding laidOut
+laid-length v n j c zero = refl
+laid-length v n j c (suc t) = length-set (laidOut v n j c t) (j + n * t) (getD c t 0) ∙ laid-length v n j c t
+
+pub laid-long : (v : List ℕ) (n j : ℕ) (c : List ℕ) (t : ℕ) {l : List ℕ} → l ≡ laidOut v n j c t → length v ≡ 25 → length l ≡ 25
+laid-long v n j c t e h = ap length e ∙ laid-length v n j c t ∙ h
+
+-- the words f 0 to f (m - 1), in a list
+unfoldable listed : (ℕ → ℕ) → ℕ → List ℕ
+listed f zero = []
+listed f (suc m) = f 0 ∷ listed (λ k. f (suc k)) m
+
+listed-length : (f : ℕ → ℕ) (m : ℕ) → length (listed f m) ≡ m
+unfolding listed
+listed-length f zero = refl
+listed-length f (suc m) = ap suc (listed-length (λ k. f (suc k)) m)
+
+listed-at : (f : ℕ → ℕ) (m k : ℕ) → k < m → getD (listed f m) k 0 ≡ f k
+unfolding listed
+listed-at f zero k h = absurd (not-suc-le-zero h)
+listed-at f (suc m) zero h = refl
+listed-at f (suc m) (suc k) h = listed-at (λ j. f (suc j)) m k (omega arith)
+
+put-listed : (f : ℕ → ℕ) (n : ℕ) {l : List ℕ} → l ≡ listed f n → bytesOf (λ k. getD l k 0) (length l) ≡ bytesOf f n
+put-listed f n e = rw (e, listed-length f n) (bytes-same (λ k. getD (listed f n) k 0) f n (listed-at f n))
+
+-- at most six types
+to-six : (P : ℕ → Type 0) → P 0 → P 1 → P 2 → P 3 → P 4 → P 5 → P 6 → (t : ℕ) → t ≤ 6 → P t
+to-six P a b c d e f g t h = elim (decLt t 6) [
+  | yes l ↦ below-six P a b c d e f t l
+  | no l ↦ let q : 6 ≡ t = omega arith in subst P q g
+]
+
+-- a block whose fields are laid out has its words
+pub stock-laid : (x : Stock) (t : ℕ) → t ≤ 6 → {r l : List ℕ} → r ≡ laidOut (replicate 25 1) 2 1 (x .rights) t → l ≡ laidOut r 2 2 (x .counts) t
+    → bytesOf (λ k. getD (take (stockSize t) l) k 0) (length (take (stockSize t) l)) ≡ stockBytes x t
+unfolding stockWord laidOut listed
+stock-laid x t h p q =
+    put-listed (stockWord x) (stockSize t)
+    (ap (take (stockSize t)) (rw p at q)
+    ∙ to-six (λ t. take (stockSize t) (laidOut (laidOut (replicate 25 1) 2 1 (x .rights) t) 2 2 (x .counts) t) ≡ listed (stockWord x) (stockSize t))
+    refl refl refl refl refl refl refl t h)
+
+pub effect-laid : (e : Effect) (t : ℕ) → t ≤ 6 → {i m c l : List ℕ} → i ≡ laidOut (replicate 25 1) 4 1 (e .keepin) t → m ≡ laidOut i 4 2 (e .keepmax) t
+    → c ≡ laidOut m 4 3 (e .cap) t → l ≡ laidOut c 4 4 (e .drop) t
+    → bytesOf (λ k. getD (take (effectSize t) l) k 0) (length (take (effectSize t) l)) ≡ effectBytes e t
+unfolding effectWord laidOut listed
+effect-laid e t h p q r s =
+    put-listed (effectWord e) (effectSize t)
+    (ap (take (effectSize t)) (rw (rw (rw p at q) at r) at s)
+    ∙ to-six (λ t. take (effectSize t) (laidOut (laidOut (laidOut (laidOut (replicate 25 1) 4 1 (e .keepin) t) 4 2 (e .keepmax) t) 4 3 (e .cap) t) 4 4 (e .drop) t) ≡ listed (effectWord e) (effectSize t))
+    refl refl refl refl refl refl refl t h)
 
 -- a sheet filled with 0 to its end
 pub blank-end : (s p : List ℕ) (i : ℕ) → i ≡ length s → p ≡ replicate i 0 ++ drop i s → p ≡ blanked s

@@ -1,5 +1,5 @@
-pub mod Splice
 pub mod Fill
 pub mod Same
 pub mod Back
+pub mod Marked
 pub mod Potential

@@ -12,7 +12,7 @@ use native.Mathlib.Omega.{arith}
 use Rattle.layout.specs.declared.Shape.{Shape}
 use Rattle.layout.specs.Layout.{sheetBytes, blockCount, blockSize, blockAt}
 use Rattle.layout.proofs.Blocks.{apart, inside}
-use Rattle.sheet.specs.Write.{splice, bytesOf}
+use Rattle.words.specs.Write.{splice, bytesOf}
 use Rattle.sheet.proofs.Same.{SameWords}
 use Rattle.sheet.proofs.Back.{kept}
 

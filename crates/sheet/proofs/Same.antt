@@ -1,57 +1,49 @@
 -- What is read of a block depends on its words alone.
 use Prim.Native.Nat.{ℕ, _+_, _*_, _≤_, _<_}
 use mathlib.Core.Path.{_≡_, refl}
-use mathlib.Core.Bool.{Bool, true, false}
-use mathlib.Core.List.{List}
+use mathlib.Core.Bool.{Bool, true, false, cond}
+use mathlib.Core.List.{List, [], _∷_}
 use lib.Dec.{ltb}
 use borrow.Author.Tests.{ltb-true}
 use native.Mathlib.Nat.{le-refl}
 use native.Mathlib.Omega.{arith}
 use Rattle.layout.specs.Layout.{stockSize, effectSize}
-use Rattle.single.specs.declared.Held.{Held}
-use Rattle.single.specs.declared.One.{One}
-use Rattle.effect.specs.Six.{stockOf, effectOf, heldIf, noneHeld}
-use Rattle.effect.specs.Whole.{oneIf}
-use Rattle.effect.proofs.Six.{among-ext}
-use Rattle.sheet.specs.Read.{sheetWord, markAt, heldWords, oneWords, stockAt, effectAt}
+use Rattle.effect.specs.Six.{six}
+use Rattle.sheet.specs.Read.{sheetWord, markAt, column, stockAt, effectAt}
 
 -- the n words from w on are the same in two sheets
 abbrev pub SameWords : List ℕ → List ℕ → ℕ → ℕ → Type 0
 SameWords s r w n = (v : ℕ) → w ≤ v → v < w + n → sheetWord s v ≡ sheetWord r v
 
-pub stock-ext : {f g : ℕ → Held} → ((k : ℕ) → k < 6 → f k ≡ g k) → stockOf f ≡ stockOf g
-stock-ext {f} {g} h = λ i. stockOf (among-ext f g h i)
-
-pub effect-ext : {f g : ℕ → One} → ((k : ℕ) → k < 6 → f k ≡ g k) → effectOf f ≡ effectOf g
-effect-ext {f} {g} h = λ i. effectOf (among-ext f g h i)
+pub six-same : {f g : ℕ → ℕ} → ((k : ℕ) → k < 6 → f k ≡ g k) → six f ≡ six g
+six-same h =
+    λ i. h 0 (omega arith) i ∷ h 1 (omega arith) i ∷ h 2 (omega arith) i ∷ h 3 (omega arith) i ∷ h 4 (omega arith) i ∷ h 5 (omega arith) i ∷ []
 
 module _ (s r : List ℕ) (w : ℕ) where
   pub mark-same : {n : ℕ} → 0 < n → SameWords s r w n → markAt s w ≡ markAt r w
   mark-same {n} l h = h w (le-refl w) (omega arith)
 
   module _ (t : ℕ) where
+    -- one column of a block of m words
+    column-same : (n j none m : ℕ) → ((k : ℕ) → k < t → j + n * k < m) → SameWords s r w m → six (column s t w n j none) ≡ six (column r t w n j none)
+    column-same n j none m inside h = six-same (λ k l. at k (ltb k t) refl)
+      where
+        at : (k : ℕ) (b : Bool) → ltb k t ≡ b → cond b (sheetWord s (w + (j + n * k))) none ≡ cond b (sheetWord r (w + (j + n * k))) none
+        at k false q = refl
+        at k true q = let l : j + n * k < m = inside k (ltb-true k t q) in h (w + (j + n * k)) (omega arith) (omega arith)
+
     pub stock-same : SameWords s r w (stockSize t) → stockAt s t w ≡ stockAt r t w
     unfolding stockAt
-    stock-same h = stock-ext (λ k l. at k (ltb k t) refl)
-      where
-        at : (k : ℕ) (b : Bool) → ltb k t ≡ b → heldIf b (heldWords s (w + 1 + 2 * k)) noneHeld ≡ heldIf b (heldWords r (w + 1 + 2 * k)) noneHeld
-        at k false q = refl
-        at k true q =
-            let l : k < t = ltb-true k t q in
-            let a = h (w + 1 + 2 * k) (omega arith) (omega arith) in
-            let b = h (w + 1 + 2 * k + 1) (omega arith) (omega arith) in
-            λ i. record { rights = a i; count = b i }
+    stock-same h =
+        let a = column-same 2 1 0 (stockSize t) (λ k l. omega arith) h in
+        let b = column-same 2 2 0 (stockSize t) (λ k l. omega arith) h in
+        λ i. record { rights = a i; counts = b i }
 
     pub effect-same : SameWords s r w (effectSize t) → effectAt s t w ≡ effectAt r t w
     unfolding effectAt
-    effect-same h = effect-ext (λ k l. at k (ltb k t) refl)
-      where
-        at : (k : ℕ) (b : Bool) → ltb k t ≡ b → oneIf b (oneWords s (w + 1 + 4 * k)) ≡ oneIf b (oneWords r (w + 1 + 4 * k))
-        at k false q = refl
-        at k true q =
-            let l : k < t = ltb-true k t q in
-            let a = h (w + 1 + 4 * k) (omega arith) (omega arith) in
-            let b = h (w + 1 + 4 * k + 1) (omega arith) (omega arith) in
-            let c = h (w + 1 + 4 * k + 2) (omega arith) (omega arith) in
-            let d = h (w + 1 + 4 * k + 3) (omega arith) (omega arith) in
-            λ i. record { keepin = a i; keepmax = b i; cap = c i; drop = d i }
+    effect-same h =
+        let a = column-same 4 1 0 (effectSize t) (λ k l. omega arith) h in
+        let b = column-same 4 2 65535 (effectSize t) (λ k l. omega arith) h in
+        let c = column-same 4 3 255 (effectSize t) (λ k l. omega arith) h in
+        let d = column-same 4 4 0 (effectSize t) (λ k l. omega arith) h in
+        λ i. record { keepin = a i; keepmax = b i; cap = c i; drop = d i }

@@ -1,14 +1,12 @@
 -- How the blocks of a sheet are read: a stock and an effect of six types, of which the file has t.
 use Prim.Native.Nat.{ℕ, _+_, _*_}
+use mathlib.Core.Bool.{Bool, cond}
 use mathlib.Core.List.{List}
-use lib.Dec.{ltb}
+use lib.Dec.{ltb, eqb}
 use Rattle.words.specs.Bytes.{wordAt}
-use Rattle.single.specs.declared.Held.{Held}
-use Rattle.single.specs.declared.One.{One}
 use Rattle.effect.specs.declared.Stock.{Stock}
 use Rattle.effect.specs.declared.Effect.{Effect}
-use Rattle.effect.specs.Six.{stockOf, effectOf, heldIf, noneHeld}
-use Rattle.effect.specs.Whole.{oneIf}
+use Rattle.effect.specs.Six.{six}
 
 -- "Words of two bytes": word w of the sheet
 abbrev pub sheetWord : List ℕ → ℕ → ℕ
@@ -18,24 +16,25 @@ sheetWord s w = wordAt s (2 * w)
 abbrev pub markAt : List ℕ → ℕ → ℕ
 markAt s w = sheetWord s w
 
--- "its stock (rights, count per type)"
-abbrev pub heldWords : List ℕ → ℕ → Held
-heldWords s w = record { rights = sheetWord s w; count = sheetWord s (w + 1) }
+-- the block at the word w has mark 1
+unfoldable pub marked : List ℕ → ℕ → Bool
+marked s w = eqb (markAt s w) 1
 
--- "an effect (keep-in, keep-max, cap, drop per type)"
-abbrev pub oneWords : List ℕ → ℕ → One
-oneWords s w =
-    record {
-      keepin = sheetWord s w;
-      keepmax = sheetWord s (w + 1);
-      cap = sheetWord s (w + 2);
-      drop = sheetWord s (w + 3);
-    }
+-- one field of the types, in the block at w: that of type 0 is word j, that of each further type stands n words on; `none` for a type that
+-- the file does not have
+abbrev pub column : List ℕ → ℕ → ℕ → ℕ → ℕ → ℕ → ℕ → ℕ
+column s t w n j none k = cond (ltb k t) (sheetWord s (w + (j + n * k))) none
 
--- the stock after the mark at w; a type that the file does not have holds nothing
+-- "its stock (rights, count per type)"; a type that the file does not have holds nothing
 unfoldable pub stockAt : List ℕ → ℕ → ℕ → Stock
-stockAt s t w = stockOf (λ k. heldIf (ltb k t) (heldWords s (w + 1 + 2 * k)) noneHeld)
+stockAt s t w = record { rights = six (column s t w 2 1 0); counts = six (column s t w 2 2 0) }
 
--- the effect after the mark at w; to a type that the file does not have nothing is done
+-- "an effect (keep-in, keep-max, cap, drop per type)"; to a type that the file does not have nothing is done: 0, all bits, cap 255, drop 0
 unfoldable pub effectAt : List ℕ → ℕ → ℕ → Effect
-effectAt s t w = effectOf (λ k. oneIf (ltb k t) (oneWords s (w + 1 + 4 * k)))
+effectAt s t w =
+    record {
+      keepin = six (column s t w 4 1 0);
+      keepmax = six (column s t w 4 2 65535);
+      cap = six (column s t w 4 3 255);
+      drop = six (column s t w 4 4 0);
+    }

@@ -1,134 +1,116 @@
 // The blocks of a sheet: read from lent bytes, and written where they stand in it.
 use effect::Effect;
 use effect::Stock;
-use single::Held;
-use single::One;
 ghost use mathlib.Core.Path.{_≡_};
+ghost use mathlib.Core.Bool.{true};
 ghost use Prim.Native.Nat.{_+_, _*_, _<_, _≤_};
-ghost use lib.ListN.{length};
-ghost use lib.Dec.{ltb};
+ghost use lib.ListN.{length, getD};
 ghost use Rattle.layout.specs.Layout.{stockSize, effectSize};
-ghost use Rattle.effect.specs.Six.{heldIf, noneHeld};
-ghost use Rattle.effect.specs.Whole.{oneIf};
-ghost use Rattle.sheet.specs.Read.{sheetWord, markAt, heldWords, oneWords, stockAt, effectAt};
-ghost use Rattle.sheet.specs.Write.{splice, wordBytes, bytesOf, stockWord, effectWord, stockBytes, effectBytes, blanked};
+ghost use Rattle.effect.specs.Six.{six};
+ghost use Rattle.words.specs.Write.{splice, bytesOf};
+ghost use Rattle.sheet.specs.Read.{sheetWord, markAt, marked, column, stockAt, effectAt};
+ghost use Rattle.sheet.specs.Write.{laidOut, stockBytes, effectBytes, blanked};
 
-// Word w of the sheet.
-fn word(s: &[u8], w: usize) -> u16
-    requires { ⌜ w < 8589934592 ⌝ }
-    ensures { λ r. ⌜ r ≡ sheetWord (now (s .entry)) w ⌝ }
+// Word k of the block whose first word is w.
+fn word(s: &[u8], w: usize, k: usize) -> u16
+    requires { ⌜ k < 25 ⌝ }
+    ensures { λ r. ⌜ r ≡ sheetWord (now (s .entry)) (w + k) ⌝ }
 {
-    words::word(s, 2 * w) as u16
+    if s.len() / 2 < w {
+        return 0;
+    }
+    words::word(s, 2 * (w + k)) as u16
 }
 
 // The mark of the block whose first word is w.
 pub fn mark(s: &[u8], w: usize) -> u16
-    requires { ⌜ w < 4294967296 ⌝ }
     ensures { λ r. ⌜ r ≡ markAt (now (s .entry)) w ⌝ }
 {
-    word(s, w)
+    word(s, w, 0)
 }
 
-// What the stock at w holds of type k.
-fn held_at(s: &[u8], t: usize, w: usize, k: usize) -> Held
-    requires { ⌜ (w < 4294967296) × (k < 6) ⌝ }
-    ensures { λ r. ⌜ r ≡ heldIf (ltb k t) (heldWords (now (s .entry)) (w + 1 + 2 * k)) noneHeld ⌝ }
+// The block at w has mark 1.
+pub fn is_marked(s: &[u8], w: usize) -> bool
+    ensures { λ r. ⌜ r ≡ marked (now (s .entry)) w ⌝ }
 {
-    if k < t {
-        let a = w + 1 + 2 * k;
-        return Held {
-            rights: word(s, a),
-            count: word(s, a + 1),
-        };
-    }
-    Held {
-        rights: 0,
-        count: 0,
-    }
+    mark(s, w) == 1
 }
 
-// What the effect at w does to type k.
-fn one_at(s: &[u8], t: usize, w: usize, k: usize) -> One
-    requires { ⌜ (w < 4294967296) × (k < 6) ⌝ }
-    ensures { λ r. ⌜ r ≡ oneIf (ltb k t) (oneWords (now (s .entry)) (w + 1 + 4 * k)) ⌝ }
+// What a column has of type k: word j of the block for type 0, and n words on for each further type.
+fn field(s: &[u8], t: u16, w: usize, n: usize, j: usize, none: u16, k: usize) -> u16
+    requires { ⌜ (n ≤ 4) × (j ≤ 4) × (k < 6) ⌝ }
+    ensures { λ r. ⌜ r ≡ column (now (s .entry)) t w n j none k ⌝ }
 {
-    if k < t {
-        let a = w + 1 + 4 * k;
-        return One {
-            keepin: word(s, a),
-            keepmax: word(s, a + 1),
-            cap: word(s, a + 2),
-            drop: word(s, a + 3),
-        };
+    if k < t as usize {
+        return word(s, w, j + n * k);
     }
-    single::nothing_done()
+    none
 }
 
-// The same, of a block that lies in the sheet.
-fn inner_one(s: &[u8], t: usize, w: usize, k: usize) -> One
-    requires { ⌜ (w < 4294967296) × (k < 6) × (2 * (w + effectSize t) ≤ length (now s)) ⌝ }
-    ensures { λ r. ⌜ r ≡ oneIf (ltb k t) (oneWords (now (s .entry)) (w + 1 + 4 * k)) ⌝ }
+// A block of t types, at most six, with n words each lies in the sheet.
+fn lies_in(s: &[u8], t: u16, w: usize, n: usize) -> bool
+    requires { ⌜ n ≤ 4 ⌝ }
+    ensures { λ r. ⌜ (r ≡ true → (t ≤ 6) × (2 * (w + (1 + n * t)) ≤ length (now (s .entry)))) ⌝ }
 {
-    if k < t {
-        let a = w + 1 + 4 * k;
-        return One {
-            keepin: words::inner_word(s, 2 * a) as u16,
-            keepmax: words::inner_word(s, 2 * (a + 1)) as u16,
-            cap: words::inner_word(s, 2 * (a + 2)) as u16,
-            drop: words::inner_word(s, 2 * (a + 3)) as u16,
-        };
+    let have = s.len() / 2;
+    if have < w {
+        return false;
     }
-    single::nothing_done()
+    (t <= 6) & (1 + n * t as usize <= have - w)
 }
 
-// The effect of a block that lies in the sheet.
-fn inner_effect(s: &[u8], t: usize, w: usize) -> Effect
-    requires { ⌜ (w < 4294967296) × (2 * (w + effectSize t) ≤ length (now s)) ⌝ }
-    ensures { λ r. ⌜ r ≡ effectAt (now (s .entry)) t w ⌝ }
+// A column of a block that lies in the sheet: no word is tested, and a type that the file does not have costs nothing.
+fn inner_column(s: &[u8], t: u16, w: usize, n: usize, j: usize, none: u16) -> [u16; 6]
+    requires { ⌜ (t ≤ 6) × (j ≤ n) × (2 * (w + (1 + n * t)) ≤ length (now s)) ⌝ }
+    ensures { λ r. ⌜ r ≡ six (column (now (s .entry)) t w n j none) ⌝ }
 {
-    effect::effect_of(
-        inner_one(s, t, w, 0),
-        inner_one(s, t, w, 1),
-        inner_one(s, t, w, 2),
-        inner_one(s, t, w, 3),
-        inner_one(s, t, w, 4),
-        inner_one(s, t, w, 5),
-    )
+    let mut c = [none; 6];
+    let mut k = 0;
+    while k < t as usize {
+        c[k] = words::inner_word(s, 2 * (w + (j + n * k))) as u16;
+        k += 1;
+    }
+    c
+}
+
+// A column of any block. Nearly every block lies in the sheet, which is tested once.
+fn six_of(s: &[u8], t: u16, w: usize, n: usize, j: usize, none: u16) -> [u16; 6]
+    requires { ⌜ (n ≤ 4) × (j ≤ n) ⌝ }
+    ensures { λ r. ⌜ r ≡ six (column (now (s .entry)) t w n j none) ⌝ }
+{
+    if lies_in(s, t, w, n) {
+        return inner_column(s, t, w, n, j, none);
+    }
+    [
+        field(s, t, w, n, j, none, 0),
+        field(s, t, w, n, j, none, 1),
+        field(s, t, w, n, j, none, 2),
+        field(s, t, w, n, j, none, 3),
+        field(s, t, w, n, j, none, 4),
+        field(s, t, w, n, j, none, 5),
+    ]
 }
 
 // The stock of the block whose first word is w, of t types.
-pub fn stock(s: &[u8], t: usize, w: usize) -> Stock
-    requires { ⌜ w < 4294967296 ⌝ }
+pub fn stock(s: &[u8], t: u16, w: usize) -> Stock
     ensures { λ r. ⌜ r ≡ stockAt (now (s .entry)) t w ⌝ }
 {
-    effect::stock_of(
-        held_at(s, t, w, 0),
-        held_at(s, t, w, 1),
-        held_at(s, t, w, 2),
-        held_at(s, t, w, 3),
-        held_at(s, t, w, 4),
-        held_at(s, t, w, 5),
-    )
+    Stock {
+        rights: six_of(s, t, w, 2, 1, 0),
+        counts: six_of(s, t, w, 2, 2, 0),
+    }
 }
 
-// The effect of the block whose first word is w, of t types. Nearly every block lies in the sheet whole, which is tested once.
-pub fn effect(s: &[u8], t: usize, w: usize) -> Effect
-    requires { ⌜ w < 4294967296 ⌝ }
+// The effect of the block whose first word is w, of t types.
+pub fn effect(s: &[u8], t: u16, w: usize) -> Effect
     ensures { λ r. ⌜ r ≡ effectAt (now (s .entry)) t w ⌝ }
 {
-    if t <= 6 {
-        if 2 * (w + 1 + 4 * t) <= s.len() {
-            return inner_effect(s, t, w);
-        }
+    Effect {
+        keepin: six_of(s, t, w, 4, 1, 0),
+        keepmax: six_of(s, t, w, 4, 2, 65535),
+        cap: six_of(s, t, w, 4, 3, 255),
+        drop: six_of(s, t, w, 4, 4, 0),
     }
-    effect::effect_of(
-        one_at(s, t, w, 0),
-        one_at(s, t, w, 1),
-        one_at(s, t, w, 2),
-        one_at(s, t, w, 3),
-        one_at(s, t, w, 4),
-        one_at(s, t, w, 5),
-    )
 }
 
 // Every byte is made 0.
@@ -142,94 +124,53 @@ pub fn blank(s: &mut [u8])
     }
 }
 
-// Word k of a marked block that has the stock x.
-fn stock_word(x: Stock, k: usize) -> u16
-    requires { ⌜ k < 13 ⌝ }
-    ensures { λ r. ⌜ r ≡ stockWord x k ⌝ }
+// One field of t types goes into the words v of a block: type 0 at word j, and n words on for each further type.
+fn laid(v: [u16; 25], t: u16, n: usize, j: usize, field: [u16; 6]) -> [u16; 25]
+    requires { ⌜ (t ≤ 6) × (n ≤ 4) × (j ≤ 4) ⌝ }
+    ensures { λ r. ⌜ r ≡ laidOut v n j field t ⌝ }
 {
-    if k == 0 {
-        return 1;
-    }
-    let i = (k - 1) / 2;
-    if (k - 1) % 2 == 0 {
-        return x.rights[i];
-    }
-    x.counts[i]
-}
-
-// Word k of a marked block that has the effect e.
-fn effect_word(e: Effect, k: usize) -> u16
-    requires { ⌜ k < 25 ⌝ }
-    ensures { λ r. ⌜ r ≡ effectWord e k ⌝ }
-{
-    if k == 0 {
-        return 1;
-    }
-    let i = (k - 1) / 4;
-    let j = (k - 1) % 4;
-    if j == 0 {
-        return e.keepin[i];
-    }
-    if j == 1 {
-        return e.keepmax[i];
-    }
-    if j == 2 {
-        return e.cap[i];
-    }
-    e.drop[i]
-}
-
-fn put_word(p: &mut [u8], k: usize, v: u16)
-    requires { ⌜ (2 * k + 2 ≤ length (now p)) × (k < 25) ⌝ }
-    ensures { λ _. ⌜ now (p .exit) ≡ splice (now (p .entry)) (2 * k) (wordBytes v) ⌝ }
-{
-    let a = 2 * k;
-    p[a] = (v % 256) as u8;
-    p[a + 1] = (v / 256) as u8;
-}
-
-// A block is filled with the n words of a stock.
-fn put_stock(p: &mut [u8], n: usize, x: Stock)
-    requires { ⌜ (length (now p) ≡ 2 * n) × (n ≤ 13) ⌝ }
-    ensures { λ _. ⌜ now (p .exit) ≡ bytesOf (stockWord x) n ⌝ }
-{
+    let mut r = v;
     let mut k = 0;
-    while k < n {
-        let v = stock_word(x, k);
-        put_word(p, k, v);
+    while k < t as usize {
+        r[j + n * k] = field[k];
         k += 1;
     }
+    r
 }
 
-// A block is filled with the n words of an effect.
-fn put_effect(p: &mut [u8], n: usize, e: Effect)
-    requires { ⌜ (length (now p) ≡ 2 * n) × (n ≤ 25) ⌝ }
-    ensures { λ _. ⌜ now (p .exit) ≡ bytesOf (effectWord e) n ⌝ }
+// The words v are written where their block stands in the sheet's middle.
+fn put_block(s: &mut [u8], w: usize, v: &[u16])
+    requires { ⌜ 2 * (w + length (now v)) ≤ length (now s) ⌝ }
+    ensures { λ _. ⌜ now (s .exit) ≡ splice (now (s .entry)) (2 * w) (bytesOf (λ k. getD (now (v .entry)) k 0) (length (now (v .entry)))) ⌝ }
 {
-    let mut k = 0;
-    while k < n {
-        let v = effect_word(e, k);
-        put_word(p, k, v);
-        k += 1;
-    }
+    let a = 2 * w;
+    let e = a + 2 * v.len();
+    words::put_words(&mut s[a..e], v);
 }
 
-// The block whose first word is w is marked and gets the stock x: written where it stands in the sheet's middle.
-pub fn write_stock(s: &mut [u8], t: usize, w: usize, x: Stock)
+// The block whose first word is w is marked and gets the stock x.
+pub fn write_stock(s: &mut [u8], t: u16, w: usize, x: Stock)
     requires { ⌜ (2 * (w + stockSize t) ≤ length (now s)) × (t ≤ 6) ⌝ }
     ensures { λ _. ⌜ now (s .exit) ≡ splice (now (s .entry)) (2 * w) (stockBytes x t) ⌝ }
 {
-    let n = 1 + 2 * t;
-    let a = 2 * w;
-    put_stock(&mut s[a..a + 2 * n], n, x);
+    let rights = x.rights;
+    let counts = x.counts;
+    let v = laid(laid([1; 25], t, 2, 1, rights), t, 2, 2, counts);
+    let n = 1 + 2 * t as usize;
+    put_block(s, w, &v[..n]);
 }
 
 // The block whose first word is w is marked and gets the effect e.
-pub fn write_effect(s: &mut [u8], t: usize, w: usize, e: Effect)
+pub fn write_effect(s: &mut [u8], t: u16, w: usize, e: Effect)
     requires { ⌜ (2 * (w + effectSize t) ≤ length (now s)) × (t ≤ 6) ⌝ }
     ensures { λ _. ⌜ now (s .exit) ≡ splice (now (s .entry)) (2 * w) (effectBytes e t) ⌝ }
 {
-    let n = 1 + 4 * t;
-    let a = 2 * w;
-    put_effect(&mut s[a..a + 2 * n], n, e);
+    let keepin = e.keepin;
+    let keepmax = e.keepmax;
+    let cap = e.cap;
+    let drop = e.drop;
+    let r = laid(laid([1; 25], t, 4, 1, keepin), t, 4, 2, keepmax);
+    let v = laid(laid(r, t, 4, 3, cap), t, 4, 4, drop);
+    let n = 1 + 4 * t as usize;
+    put_block(s, w, &v[..n]);
 }

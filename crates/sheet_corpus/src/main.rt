@@ -2,9 +2,8 @@
 // types, and then the sheet. Printed are its first ill-formed block and that block's first word.
 use layout::Shape;
 use libc::STDOUT_FILENO;
-ghost use Rattle.layout.specs.Layout.{Within};
 
-fn print_block(b: usize, w: usize) {
+fn print_block(b: u32, w: usize) {
     io::write_all(STDOUT_FILENO, b"block ");
     io::print_decimal(STDOUT_FILENO, b as u64);
     io::write_all(STDOUT_FILENO, b" word ");
@@ -12,9 +11,7 @@ fn print_block(b: usize, w: usize) {
     io::write_all(STDOUT_FILENO, b"\n");
 }
 
-fn judge_sheet(s: &[u8], x: Shape)
-    requires { ⌜ Within x ⌝ }
-{
+fn judge_sheet(s: &[u8], x: Shape) {
     if s.len() != layout::sheet_bytes(x) {
         io::write_all(STDOUT_FILENO, b"wrong length\n");
         return;
@@ -28,24 +25,15 @@ fn judge_sheet(s: &[u8], x: Shape)
 }
 
 fn judge_bytes(f: &[u8]) {
-    let m = words::byte(f, 0);
-    let n = words::byte(f, 1);
-    let t = words::byte(f, 2);
     if f.len() < 3 {
-        return;
-    }
-    if 64 < m {
-        return;
-    }
-    if 6 < t {
         return;
     }
     judge_sheet(
         &f[3..],
         Shape {
-            methods: m,
-            nodes: n,
-            types: t,
+            methods: words::byte(f, 0) as u16,
+            nodes: words::byte(f, 1) as u16,
+            types: words::byte(f, 2) as u16,
         },
     );
 }

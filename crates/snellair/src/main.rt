@@ -47,7 +47,7 @@ fn print_count(count: u16) {
     }
 }
 
-fn print_line(n: usize, k: usize, rights: u16, count: u16) {
+fn print_line(n: u16, k: usize, rights: u16, count: u16) {
     print_number(n as u64);
     print(b" ");
     print_number(k as u64);
@@ -58,7 +58,7 @@ fn print_line(n: usize, k: usize, rights: u16, count: u16) {
     print(b"\n");
 }
 
-fn print_stock(n: usize, types: usize, held: Stock)
+fn print_stock(n: u16, types: usize, held: Stock)
     requires { ⌜ types ≤ 6 ⌝ }
 {
     for k in 0..types {
@@ -71,7 +71,7 @@ fn print_nodes(f: &[u8], t: Tables, x: Shape, s: &[u8])
 {
     for n in 0..x.nodes {
         if listing::reached(f, t, x, s, n) {
-            print_stock(n, x.types, listing::stock(f, t, x, s, n));
+            print_stock(n, x.types as usize, listing::stock(f, t, x, s, n));
         }
     }
 }

@@ -1,5 +1,5 @@
 -- Rules 7 to 10: what a call row took of a good sheet is done part by part, each on what the part before left.
-use Prim.Native.Nat.{ℕ, suc, _+_, _*_, _-_, _≤_, _<_}
+use Prim.Native.Nat.{ℕ, suc, _+_, _-_, _<_}
 use mathlib.Core.Path.{_≡_, refl, ap}
 use mathlib.Core.Bool.{true, _&&_}
 use mathlib.Core.List.{List}
@@ -11,31 +11,33 @@ use Rattle.effect.specs.Whole.{applyOf}
 use Rattle.model.specs.Rules.{Sheet}
 use Rattle.model.specs.Stocks.{permits}
 use Rattle.model.proofs.Attained.{NodeHit}
+use Rattle.words.specs.Turn.{allFor}
 use Rattle.tables.specs.declared.Tables.{Tables}
+use Rattle.tables.specs.declared.Table.{Table}
+use Rattle.tables.specs.declared.Table.the-variants.{Flow, Catches}
 use Rattle.tables.specs.Trailer.{tablesOf}
 use Rattle.tables.specs.Fields.{nodeMethod, callNode, callMethod, catchTo}
 use Rattle.refuse.proofs.Fit.{flow-fit, call-fit, catch-fit}
 use Rattle.graph.specs.Judge.{judgeOf}
-use Rattle.graph.specs.Judgement.{shapeOf}
 use Rattle.graph.proofs.Passed.{Judged, judged}
-use Rattle.rows.specs.declared.Sorted.the-variants as sorted
-use Rattle.rows.specs.Rows.{firstRow, uncaughtOf}
-use Rattle.rows.proofs.Stretch.{of-stretch}
-use Rattle.rows.proofs.Caught.{uncaught-true, catch-says, key-row}
+use Rattle.graph.proofs.Rises.{rises}
+use Rattle.graph.proofs.Caught.{of-catches, uncaught-true}
+use Rattle.rows.specs.declared.Stretch.{Stretch}
+use Rattle.rows.specs.Rows.{flowOf, catchesOf, uncaughtOf, targetOf, allIn, eachIn}
+use Rattle.rows.proofs.Stretches.{In, of-stretch}
+use Rattle.graph.specs.Judgement.{shapeOf}
 use Rattle.nodes.proofs.Setting.{setting}
 use Rattle.layout.specs.declared.Shape.{Shape}
 use Rattle.layout.specs.Layout.{methodAt, exitAt, nodeAt}
+use Rattle.sheet.specs.Read.{marked}
 use Rattle.demand.specs.declared.Called.{Called}
-use Rattle.demand.specs.Demand.{marked, calledIn, thrownIn}
-use Rattle.rules.specs.declared.Leads.{Leads}
-use Rattle.rules.specs.declared.Leads.the-variants as leads
-use Rattle.rules.specs.Tests.{targetOf, targetUnder, allFor, afterCall, intoCall, caughtUnder}
-use Rattle.rules.specs.Sheet.{sheetIn}
-use Rattle.rules.proofs.Blocks.{mark-true}
+use Rattle.demand.specs.Demand.{calledIn, thrownIn}
+use Rattle.rules.specs.Tests.{targetUnder, afterCall, intoCall, caughtUnder}
 use Rattle.rules.proofs.Exact.{method-of}
 use Rattle.lower.proofs.Good.{Stands, Good, Done}
 use Rattle.lower.proofs.Block.{node-done, exit-done, method-done}
-use Rattle.sweep.specs.Turn.{inTurn}
+use Rattle.sheet.proofs.Marked.{mark-true}
+use Rattle.formed.specs.Sheet.{sheetIn}
 use Rattle.sweep.specs.Sweep.{targetTo, afterTo, intoTo, caughtTo, leavingTo, leavingHolds, thrownTo, thrownHolds, calledTo, calledHolds}
 use Rattle.sweep.proofs.Compose.{done-both, done-turn, done-choice, done-if}
 use Rattle.sweep.proofs.Taken.{whole-stands, whole-hit, into-stands, into-hit, thrown-stands, from-hit, through-hit}
@@ -51,7 +53,7 @@ module _ (f : List ℕ) (pass : judgeOf f ≡ Pass) where
   j = judged f t pass
 
   -- an effect that runs bring to where rows of the flow or of the catches lead
-  module _ (table : Leads) (e : Effect) (stands : Stands (t .types) e) where
+  module _ (table : Table) (e : Effect) (stands : Stands (t .types) e) where
     -- a row leads to a node of the file, and runs bring e there
     abbrev Leading : ℕ → Type 0
     Leading i = (targetOf f t table i < t .nodes) × NodeHit (setting f pass) (targetOf f t table i) e
@@ -60,10 +62,10 @@ module _ (f : List ℕ) (pass : judgeOf f ≡ Pass) where
     unfolding targetTo targetUnder
     target-done i h r H = node-done f pass r H (targetOf f t table i) (h .0) e stands (h .1)
 
-    -- all rows from a up to b
-    rows-done : (a b : ℕ) → ((i : ℕ) → a ≤ i → i < b → Leading i) → (r : List ℕ) → Good f pass r
-        → Done f pass r (inTurn (targetTo f t x table e) a (b - a) r) (allFor (targetUnder f t x r table e) a (b - a))
-    rows-done a b each = done-turn f pass (targetTo f t x table e) (λ r. targetUnder f t x r table e) a (b - a) (λ i l u. target-done i (each i l (omega arith)))
+    -- all rows of a stretch
+    rows-done : (z : Stretch) → ((i : ℕ) → In z i → Leading i) → (r : List ℕ) → Good f pass r → Done f pass r (eachIn (targetTo f t x table e) z r) (allIn (targetUnder f t x r table e) z)
+    rows-done z each =
+        done-turn f pass (targetTo f t x table e) (λ r. targetUnder f t x r table e) (z .from) (z .to - z .from) (λ i l u. target-done i (each i (l, omega arith)))
 
   -- row k of the calls
   module _ (s : List ℕ) (G : Good f pass s) (k : ℕ) (l : k < t .calls) where
@@ -86,9 +88,9 @@ module _ (f : List ℕ) (pass : judgeOf f ≡ Pass) where
       unfolding afterTo afterCall calledIn
       after-done =
           done-if f pass H (c .returns)
-          (λ q. rows-done leads.Flow (c .rounds .whole) (whole-stands f pass s G k l y q) (firstRow f t sorted.Flow n) (firstRow f t sorted.Flow (n + 1))
-          (λ i a b.
-          let w = of-stretch f t pass sorted.Flow n i a b in
+          (λ q. rows-done Flow (c .rounds .whole) (whole-stands f pass s G k l y q) (flowOf f t n)
+          (λ i a.
+          let w = of-stretch f t Flow (rises f t j Flow) n i a in
           (flow-fit f t i (j .flows i (w .0)) .to, whole-hit f pass s G k l y q i (w .0) (w .1)))
           r H)
 
@@ -113,12 +115,11 @@ module _ (f : List ℕ) (pass : judgeOf f ≡ Pass) where
           let stands = thrown-stands f pass s G k l y r H e z in
           done-choice f pass (uncaughtOf f t n e)
           (λ u. exit-done f pass r H (nodeMethod f t n) (1 + e) (method-of f pass s (G .whole) k l) (omega arith) o stands
-          (through-hit f pass s G k l y r H e z (uncaught-true f t n e u)))
-          (λ u. rows-done leads.Catches o stands (firstRow f t sorted.Catches (8 * n + e)) (firstRow f t sorted.Catches (8 * n + e + 1))
-          (λ i a b.
-          let w = of-stretch f t pass sorted.Catches (8 * n + e) i a b in
-          let v = catch-says f t n e i (key-row f t n e pass small i (w .0) (w .1)) in
-          (catch-fit f t i (j .catches i (w .0)) .to, from-hit f pass s G k l y r H e z (catchTo f t i) (i, w .0, v .0, v .1, refl)))
+          (through-hit f pass s G k l y r H e z (uncaught-true f t j n e small u)))
+          (λ u. rows-done Catches o stands (catchesOf f t n e)
+          (λ i a.
+          let w = of-catches f t j n e small i a in
+          (catch-fit f t i (j .catches i (w .0)) .to, from-hit f pass s G k l y r H e z (catchTo f t i) (i, w .0, w .1, w .2, refl)))
           r H))
 
     mark-is : c .marked ≡ true → marked s (nodeAt x n) ≡ true

@@ -16,7 +16,7 @@ use Rattle.layout.specs.Layout.{exitAt, nodeAt}
 use Rattle.sheet.specs.Read.{markAt}
 use Rattle.demand.specs.declared.Demand.{Demand}
 use Rattle.demand.specs.Demand.{asked, unasked, askedIf, demandIf, nodeEffect, flowDemand, catchDemand, returnDemand, throwDemand, leaveDemand, nodeDemand}
-use Rattle.rules.proofs.Blocks.{mark-true}
+use Rattle.sheet.proofs.Marked.{mark-true}
 
 module _ (P : Demand → Type 0) (none : P unasked) where
   only-if : (b : Bool) (d : Demand) → (b ≡ true → P d) → P (askedIf b d)

@@ -7,10 +7,9 @@ use native.Mathlib.Omega.{arith}
 use Rattle.answer.specs.declared.Answer.the-variants.{Pass}
 use Rattle.tables.specs.Trailer.{tablesOf}
 use Rattle.graph.specs.Judge.{judgeOf}
+use Rattle.words.specs.Turn.{inTurn, allFor}
 use Rattle.graph.specs.Judgement.{shapeOf}
-use Rattle.rules.specs.Tests.{allFor}
 use Rattle.lower.proofs.Good.{height, Good, Done}
-use Rattle.sweep.specs.Turn.{inTurn}
 
 module _ (f : List ℕ) (pass : judgeOf f ≡ Pass) where
   -- where nothing is asked, nothing is done
@@ -44,7 +43,7 @@ module _ (f : List ℕ) (pass : judgeOf f ≡ Pass) where
   pub done-turn : (act : ℕ → List ℕ → List ℕ) (test : List ℕ → ℕ → Bool) (a n : ℕ)
       → ((k : ℕ) → a ≤ k → k < a + n → (r : List ℕ) → Good f pass r → Done f pass r (act k r) (test r k))
       → (s : List ℕ) → Good f pass s → Done f pass s (inTurn act a n s) (allFor (test s) a n)
-  unfolding inTurn allFor
+  unfolding inTurn
   done-turn act test a zero each s G = done-none s G
   done-turn act test a (suc n) each s G =
       let d = done-turn act test a n (λ k l h. each k l (omega arith)) s G in

@@ -5,26 +5,31 @@ use mathlib.Core.List.{List}
 use native.Mathlib.Omega.{arith}
 use lib.ListN.{length}
 use Rattle.tables.specs.declared.Tables.{Tables}
+use Rattle.tables.specs.declared.Table.{Table}
+use Rattle.tables.specs.declared.Table.the-variants.{Trailer, Methods, Nodes, Flow, Calls, Catches, Opening}
+use Rattle.tables.specs.Rows.{rowsOf}
 use Rattle.tables.specs.Fields.{nodeMethod, callNode, callMethod}
-use Rattle.refuse.proofs.Fit.{node-fit, flow-fit, call-fit, catch-fit}
+use Rattle.refuse.proofs.Fit.{entry-fit, node-fit, flow-fit, call-fit, catch-fit}
 use Rattle.answer.specs.declared.Answer.the-variants.{Pass}
 use Rattle.graph.specs.Judge.{judgeIn}
 use Rattle.graph.proofs.Passed.{judged}
 use Rattle.graph.proofs.Whole.{Limits, limits}
+use Rattle.graph.proofs.Rises.{rises}
+use Rattle.rows.specs.Rows.{Sorted, targetOf}
 use Rattle.layout.specs.declared.Shape.{Shape}
 use Rattle.layout.specs.Layout.{stockSize, effectSize, methodAt, exitAt, nodeAt, sheetBytes, blockCount, blockSize, blockAt}
 use Rattle.layout.proofs.Blocks.{inside, block-method, method-size, block-exit, exit-size, block-node, node-size}
-use Rattle.rules.specs.declared.Leads.{Leads}
-use Rattle.rules.specs.declared.Leads.the-variants as leads
-use Rattle.rules.specs.declared.Source.{Source}
-use Rattle.rules.specs.declared.Source.the-variants.{Start, Entries, Flow, Catches, Nodes, Calls}
-use Rattle.rules.specs.Broken.{countOf}
-use Rattle.rules.specs.Tests.{targetOf}
-use Rattle.sweep.specs.Ready.{Ready, leadsCount}
+use Rattle.sweep.specs.Ready.{Ready}
 
 module _ {f : List ℕ} {t : Tables} {x : Shape} {s : List ℕ} (r : Ready f t x s) where
   pub limit : Limits t
   limit = subst Limits (sym (r .own)) (limits f (subst (λ y. judgeIn f y ≡ Pass) (r .own) (r .passed)))
+
+  pub few-types : x .types ≤ 6
+  few-types = omega (arith, limit .types, ap (λ y. y .types) (r .shaped))
+
+  pub sorted : Sorted f t
+  sorted = rises f t (judged f t (r .passed))
 
   as-many-nodes : x .nodes ≡ t .nodes
   as-many-nodes = ap (λ y. y .nodes) (r .shaped)
@@ -49,23 +54,15 @@ module _ {f : List ℕ} {t : Tables} {x : Shape} {s : List ℕ} (r : Ready f t x
       let h : m < x .methods = omega (arith, as-many-methods) in
       block-inside (10 * m + 1 + e) (exitAt x m e) (effectSize (x .types)) (omega arith) (block-exit x m h e k) (exit-size x m h e k)
 
-  -- a table has few rows, and so has each source
-  pub few-rows : (table : Leads) (j : ℕ) → j ≤ leadsCount t table → j < 65536
-  few-rows leads.Flow j l = omega (arith, limit .flows)
-  few-rows leads.Catches j l = omega (arith, limit .catches)
-
-  pub few-all : (source : Source) (k : ℕ) → k < countOf t source → k < 65536
-  few-all Start k l = omega arith
-  few-all Entries k l = omega (arith, limit .methods)
-  few-all Flow k l = omega (arith, limit .flows)
-  few-all Catches k l = omega (arith, limit .catches)
-  few-all Nodes k l = omega (arith, limit .nodes)
-  few-all Calls k l = omega (arith, limit .calls)
-
   -- a file that passes leads to its own nodes and methods
-  pub leads-inside : (table : Leads) (j : ℕ) → j < leadsCount t table → targetOf f t table j < t .nodes
-  leads-inside leads.Flow j l = flow-fit f t j (judged f t (r .passed) .flows j l) .to
-  leads-inside leads.Catches j l = catch-fit f t j (judged f t (r .passed) .catches j l) .to
+  pub leads-inside : (table : Table) (j : ℕ) → j < rowsOf t table → targetOf f t table j < t .nodes
+  leads-inside Trailer j l = limit .some-node
+  leads-inside Methods j l = entry-fit f t j (judged f t (r .passed) .entries j l) .inside
+  leads-inside Nodes j l = limit .some-node
+  leads-inside Flow j l = flow-fit f t j (judged f t (r .passed) .flows j l) .to
+  leads-inside Calls j l = limit .some-node
+  leads-inside Catches j l = catch-fit f t j (judged f t (r .passed) .catches j l) .to
+  leads-inside Opening j l = limit .some-node
 
   pub method-of : (n : ℕ) → n < t .nodes → nodeMethod f t n < t .methods
   method-of n l = node-fit f t n (judged f t (r .passed) .nodes n l) .method
@@ -78,4 +75,4 @@ module _ {f : List ℕ} {t : Tables} {x : Shape} {s : List ℕ} (r : Ready f t x
 
 -- and is as ready for what is as long
 pub still-ready : {f : List ℕ} {t : Tables} {x : Shape} {s q : List ℕ} → Ready f t x s → length q ≡ length s → Ready f t x q
-still-ready r l = record { passed = r .passed; own = r .own; within = r .within; shaped = r .shaped; long = l ∙ r .long }
+still-ready r l = record { passed = r .passed; own = r .own; shaped = r .shaped; long = l ∙ r .long }

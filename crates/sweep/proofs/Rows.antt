@@ -20,15 +20,16 @@ use Rattle.graph.specs.Judge.{judgeOf}
 use Rattle.graph.specs.Judgement.{shapeOf}
 use Rattle.graph.proofs.Passed.{Judged, judged}
 use Rattle.graph.proofs.Whole.{limits}
-use Rattle.rows.proofs.Caught.{uncaught-true}
+use Rattle.graph.proofs.Caught.{uncaught-true}
 use Rattle.nodes.specs.Nodes.{doesIn, openingIn}
 use Rattle.nodes.proofs.Setting.{setting}
 use Rattle.layout.specs.declared.Shape.{Shape}
 use Rattle.layout.specs.Layout.{exitAt, nodeAt}
 use Rattle.demand.specs.declared.Demand.{Demand}
 use Rattle.demand.specs.Demand.{asked, unasked, entryDemand, flowDemand, catchDemand, nodeDemand}
-use Rattle.rules.specs.Tests.{effectUnder, met, startUnder}
-use Rattle.rules.specs.Sheet.{sheetIn}
+use Rattle.sheet.specs.Under.{effectUnder}
+use Rattle.rules.specs.Tests.{met, startUnder}
+use Rattle.formed.specs.Sheet.{sheetIn}
 use Rattle.lower.specs.Lower.{effectTo}
 use Rattle.lower.proofs.Good.{Stands, Good, Done}
 use Rattle.lower.proofs.Stands.{nothing-stands, then-stands, step-stands, opening-stands, read-stands}
@@ -121,4 +122,4 @@ module _ (f : List ℕ) (pass : judgeOf f ≡ Pass) (s : List ℕ) (G : Good f p
       (λ y g. exit-asked m 0 (fit .method) (omega arith) (T .node n) (node-stands n (l, y)) (at-return S T A n (l, g) (l, y)))
       (λ y g u.
       exit-asked m (1 + e) (fit .method) (omega (arith, fit .exception g)) (T .node n) (node-stands n (l, y))
-      (subst (λ i. ExitHit S m i (T .node n)) (sym (one-add e)) (at-throw S T A n e ((l, g), refl) (l, y) (uncaught-true f t n e u))))
+      (subst (λ i. ExitHit S m i (T .node n)) (sym (one-add e)) (at-throw S T A n e ((l, g), refl) (l, y) (uncaught-true f t j n e (omega (arith, fit .exception g)) u))))

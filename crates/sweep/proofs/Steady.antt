@@ -6,24 +6,24 @@ use mathlib.Core.List.{List}
 use Rattle.effect.specs.declared.Stock.{Stock}
 use Rattle.effect.specs.declared.Effect.{Effect}
 use Rattle.effect.proofs.Bools.{and-l, and-r}
+use Rattle.words.specs.Turn.{inTurn, allFor}
 use Rattle.tables.specs.declared.Tables.{Tables}
+use Rattle.tables.specs.declared.Table.{Table}
+use Rattle.tables.specs.declared.Table.the-variants.{Trailer, Methods, Nodes, Flow, Calls, Catches, Opening}
+use Rattle.tables.specs.Rows.{rowsOf}
 use Rattle.tables.specs.Fields.{nodeMethod}
-use Rattle.rows.specs.declared.Sorted.the-variants as sorted
-use Rattle.rows.specs.Rows.{uncaughtOf}
+use Rattle.rows.specs.declared.Stretch.{Stretch}
+use Rattle.rows.specs.Rows.{uncaughtOf, allIn, eachIn}
 use Rattle.layout.specs.declared.Shape.{Shape}
 use Rattle.layout.specs.Layout.{methodAt, exitAt}
+use Rattle.sheet.specs.Read.{marked}
 use Rattle.demand.specs.declared.Demand.{Demand}
 use Rattle.demand.specs.declared.Called.{Called}
-use Rattle.demand.specs.Demand.{marked, thrownIn, calledIn}
-use Rattle.rules.specs.declared.Leads.{Leads}
-use Rattle.rules.specs.declared.Leads.the-variants as leads
-use Rattle.rules.specs.declared.Source.{Source}
-use Rattle.rules.specs.declared.Source.the-variants.{Start, Entries, Flow, Catches, Nodes, Calls}
-use Rattle.rules.specs.Tests.{effectUnder, stockUnder, met, targetUnder, allFor, startUnder, afterCall, intoCall, caughtUnder}
-use Rattle.rules.specs.Broken.{countOf}
+use Rattle.demand.specs.Demand.{tableAt, thrownIn, calledIn}
+use Rattle.rules.specs.Tests.{met, targetUnder, startUnder, afterCall, intoCall, caughtUnder}
 use Rattle.lower.specs.Lower.{effectTo, stockTo}
-use Rattle.sweep.specs.Turn.{inTurn, turned}
-use Rattle.sweep.specs.Sweep.{meetTo, startTo, targetTo, afterTo, intoTo, caughtTo, leavingTo, leavingHolds, thrownTo, thrownHolds, calledTo, calledHolds, rowTo, rowHolds, tableTo, tableHolds, sourceAt}
+use Rattle.sheet.specs.Under.{effectUnder, stockUnder}
+use Rattle.sweep.specs.Sweep.{turned, meetTo, startTo, targetTo, afterTo, intoTo, caughtTo, leavingTo, leavingHolds, thrownTo, thrownHolds, calledTo, calledHolds, rowTo, rowHolds, tableTo, tableHolds, tablesTo, tablesHold, sweepTo, sweepHolds}
 use Rattle.sweep.proofs.Turn.{Steady, two-told, turn-idle}
 
 pub effect-steady : (s : List ℕ) (x : Shape) (w : ℕ) (e : Effect) → effectUnder s x w e ≡ true → effectTo s x w e ≡ s
@@ -48,16 +48,16 @@ unfolding met meetTo
 meet-steady s x d h = if-steady (d .asks) (effect-steady s x (d .at) (d .most)) h
 
 module _ (f : List ℕ) (t : Tables) (x : Shape) where
-  pub target-steady : (table : Leads) (e : Effect) → Steady (targetTo f t x table e) (λ s. targetUnder f t x s table e)
+  pub target-steady : (table : Table) (e : Effect) → Steady (targetTo f t x table e) (λ s. targetUnder f t x s table e)
   unfolding targetTo targetUnder
   target-steady table e s j h = effect-steady s x _ e h
 
-  rows-steady : (table : Leads) (e : Effect) (a n : ℕ) (s : List ℕ) → allFor (targetUnder f t x s table e) a n ≡ true → inTurn (targetTo f t x table e) a n s ≡ s
-  rows-steady table e a n s h = turn-idle (targetTo f t x table e) (λ r. targetUnder f t x r table e) (target-steady table e) s a n h
+  rows-steady : (table : Table) (e : Effect) (z : Stretch) (s : List ℕ) → allIn (targetUnder f t x s table e) z ≡ true → eachIn (targetTo f t x table e) z s ≡ s
+  rows-steady table e z s h = turn-idle (targetTo f t x table e) (λ r. targetUnder f t x r table e) (target-steady table e) s (z .from) (z .to - z .from) h
 
   after-steady : (c : Called) (s : List ℕ) → afterCall f t x s c ≡ true → afterTo f t x c s ≡ s
   unfolding afterCall afterTo
-  after-steady c s h = if-steady (c .returns) (rows-steady leads.Flow (c .rounds .whole) _ _ s) h
+  after-steady c s h = if-steady (c .returns) (rows-steady Flow (c .rounds .whole) _ s) h
 
   into-steady : (c : Called) (s : List ℕ) → intoCall f t x s c ≡ true → intoTo f t x c s ≡ s
   unfolding intoCall intoTo
@@ -65,7 +65,7 @@ module _ (f : List ℕ) (t : Tables) (x : Shape) where
 
   caught-steady : (n e : ℕ) (y : Effect) (s : List ℕ) → caughtUnder f t x s n e y ≡ true → caughtTo f t x n e y s ≡ s
   unfolding caughtUnder caughtTo
-  caught-steady n e y s h = rows-steady leads.Catches y _ _ s h
+  caught-steady n e y s h = rows-steady Catches y _ s h
 
   leaving-steady : (n e : ℕ) (y : Effect) (s : List ℕ) → leavingHolds f t x n e y s ≡ true → leavingTo f t x n e y s ≡ s
   unfolding leavingHolds leavingTo
@@ -124,20 +124,36 @@ module _ (f : List ℕ) (t : Tables) (x : Shape) where
   unfolding calledHolds calledTo
   unmarked-row c s k m e = (subst (λ d. false ≡ not (calledHolds f t x d s)) e (simp m), subst (λ d. s ≡ calledTo f t x d s) e (simp m))
 
-  pub row-steady : (source : Source) → Steady (rowTo f t x source) (rowHolds f t x source)
-  unfolding startUnder startTo
-  row-steady Start s k h = stock-steady s x _ _ h
-  row-steady Entries s k h = meet-steady s x _ h
-  row-steady Flow s k h = meet-steady s x _ h
-  row-steady Catches s k h = meet-steady s x _ h
+  pub row-steady : (table : Table) → Steady (rowTo f t x table) (rowHolds f t x table)
+  row-steady Trailer s k h = refl
+  row-steady Methods s k h = meet-steady s x _ h
   row-steady Nodes s k h = meet-steady s x _ h
+  row-steady Flow s k h = meet-steady s x _ h
   row-steady Calls s k h = called-steady (calledIn f t x s k) s h
+  row-steady Catches s k h = meet-steady s x _ h
+  row-steady Opening s k h = refl
 
   -- forwards or backwards
-  pub turned-steady : (backwards : Bool) (source : Source)
-      → Steady (λ k. rowTo f t x source (turned backwards (countOf t source) k)) (λ s k. rowHolds f t x source s (turned backwards (countOf t source) k))
-  turned-steady backwards source s k h = row-steady source s (turned backwards (countOf t source) k) h
+  pub turned-steady : (backwards : Bool) (table : Table)
+      → Steady (λ k. rowTo f t x table (turned backwards (rowsOf t table) k)) (λ s k. rowHolds f t x table s (turned backwards (rowsOf t table) k))
+  turned-steady backwards table s k h = row-steady table s (turned backwards (rowsOf t table) k) h
 
-  pub table-steady : (backwards : Bool) → Steady (λ i. tableTo f t x backwards (sourceAt i)) (λ s i. tableHolds f t x backwards (sourceAt i) s)
+  pub table-steady : (backwards : Bool) → Steady (λ i. tableTo f t x backwards (tableAt i)) (λ s i. tableHolds f t x backwards (tableAt i) s)
   unfolding tableTo tableHolds
-  table-steady backwards s i h = turn-idle _ _ (turned-steady backwards (sourceAt i)) s 0 (countOf t (sourceAt i)) h
+  table-steady backwards s i h = turn-idle _ _ (turned-steady backwards (tableAt i)) s 0 (rowsOf t (tableAt i)) h
+
+  start-steady : (s : List ℕ) → startUnder f t x s ≡ true → startTo f t x s ≡ s
+  unfolding startUnder startTo
+  start-steady s h = stock-steady s x _ _ h
+
+  -- what rule 1 and the tables told, the second of what the first left
+  pub sweep-told : (backwards : Bool) (s : List ℕ) {start rest : Bool} {r q : List ℕ}
+      → (start ≡ not (startUnder f t x s)) × (r ≡ startTo f t x s)
+      → (rest ≡ not (tablesHold f t x backwards r)) × (q ≡ tablesTo f t x backwards r)
+      → (start || rest ≡ not (sweepHolds f t x backwards s)) × (q ≡ sweepTo f t x backwards s)
+  unfolding sweepHolds sweepTo
+  sweep-told backwards s {start} {rest} {r} {q} a b = (
+    (λ i. _||_ (a .0 i) ((b .0 ∙ ap (λ v. not (tablesHold f t x backwards v)) (a .1)) i))
+        ∙ two-told (startUnder f t x s) (tablesHold f t x backwards s) (tablesHold f t x backwards (startTo f t x s)) (λ h. ap (tablesHold f t x backwards) (start-steady s h)),
+    b .1 ∙ ap (tablesTo f t x backwards) (a .1),
+  )

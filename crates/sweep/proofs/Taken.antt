@@ -27,8 +27,9 @@ use Rattle.nodes.proofs.Setting.{setting}
 use Rattle.layout.specs.declared.Shape.{Shape}
 use Rattle.layout.specs.Layout.{exitAt}
 use Rattle.demand.specs.declared.Called.{Called}
-use Rattle.demand.specs.Demand.{marked, calledIn, thrownIn}
-use Rattle.rules.specs.Sheet.{sheetIn}
+use Rattle.sheet.specs.Read.{marked}
+use Rattle.demand.specs.Demand.{calledIn, thrownIn}
+use Rattle.formed.specs.Sheet.{sheetIn}
 use Rattle.rules.proofs.Exact.{marked-of, of-marked, whole-is, earlier-is, called}
 use Rattle.lower.proofs.Good.{Stands, StockStands, Good}
 use Rattle.lower.proofs.Stands.{then-stands, apply-stands, whole-rounds-stands, earlier-rounds-stands, exit-read-stands, stock-read-stands}

@@ -6,8 +6,7 @@ use mathlib.Core.List.{List}
 use native.Mathlib.Omega.{arith}
 use lib.ListN.{length}
 use Rattle.effect.proofs.Bools.{and-l, and-r}
-use Rattle.rules.specs.Tests.{allFor}
-use Rattle.sweep.specs.Turn.{inTurn}
+use Rattle.words.specs.Turn.{inTurn, allFor}
 
 -- a step leaves a sheet that its test is content with
 abbrev pub Steady : (ℕ → List ℕ → List ℕ) → (List ℕ → ℕ → Bool) → Type 0
@@ -20,7 +19,7 @@ two-told false q q′ h = refl
 
 module _ (act : ℕ → List ℕ → List ℕ) (test : List ℕ → ℕ → Bool) (steady : Steady act test) where
   pub turn-idle : (s : List ℕ) (a n : ℕ) → allFor (test s) a n ≡ true → inTurn act a n s ≡ s
-  unfolding allFor inTurn
+  unfolding inTurn
   turn-idle s a zero h = refl
   turn-idle s a (suc n) h = ap (act (a + n)) (turn-idle s a n (and-l (allFor (test s) a n) _ h)) ∙ steady s (a + n) (and-r (allFor (test s) a n) _ h)
 
@@ -34,14 +33,14 @@ pub record Turning (act : ℕ → List ℕ → List ℕ) (test : List ℕ → �
 
 module _ (act : ℕ → List ℕ → List ℕ) (test : List ℕ → ℕ → Bool) (s₀ : List ℕ) (a b : ℕ) where
   pub turning-start : Turning act test s₀ a b a s₀ false
-  unfolding allFor inTurn
+  unfolding inTurn
   turning-start =
       let z : a - a ≡ 0 = omega arith in
       record { from = omega arith; to = omega arith; long = refl; told = rw z refl; left = rw z refl }
 
   pub turning-more : Steady act test → {j : ℕ} {s r : List ℕ} {wrote now : Bool} → Turning act test s₀ a b j s wrote → j < b → length r ≡ length s
       → now ≡ not (test s j) → r ≡ act j s → Turning act test s₀ a b (j + 1) r (wrote || now)
-  unfolding allFor inTurn
+  unfolding inTurn
   turning-more steady {j} {s} {r} {wrote} {now} g lt l told left =
       let n = j - a in
       let e : j + 1 - a ≡ suc n = omega (arith, g .from) in

@@ -1,3 +1,2 @@
 pub mod Ready
-pub mod Turn
 pub mod Sweep

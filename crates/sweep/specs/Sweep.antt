@@ -1,57 +1,47 @@
 -- What a sweep leaves of a sheet s, row by row, and whether it left it as it was: on the bytes of a file f with the tables t.
-use Prim.Native.Nat.{ℕ, zero, suc, _+_, _*_, _-_}
+use Prim.Native.Nat.{ℕ, _+_, _-_}
 use mathlib.Core.Bool.{Bool, true, cond, _&&_}
 use mathlib.Core.List.{List}
 use Rattle.effect.specs.declared.Effect.{Effect}
 use Rattle.effect.specs.Whole.{applyOf}
+use Rattle.words.specs.Turn.{inTurn, allFor}
 use Rattle.tables.specs.declared.Tables.{Tables}
+use Rattle.tables.specs.declared.Table.{Table}
+use Rattle.tables.specs.declared.Table.the-variants.{Trailer, Methods, Nodes, Flow, Calls, Catches, Opening}
+use Rattle.tables.specs.Rows.{rowsOf}
 use Rattle.tables.specs.Fields.{nodeMethod}
-use Rattle.rows.specs.declared.Sorted.the-variants as sorted
-use Rattle.rows.specs.Rows.{firstRow, uncaughtOf}
+use Rattle.rows.specs.Rows.{flowOf, catchesOf, uncaughtOf, targetOf, eachIn}
 use Rattle.nodes.specs.Nodes.{openingIn}
 use Rattle.layout.specs.declared.Shape.{Shape}
 use Rattle.layout.specs.Layout.{methodAt, exitAt, nodeAt}
-use Rattle.sheet.specs.Read.{stockAt}
+use Rattle.sheet.specs.Read.{marked, stockAt}
 use Rattle.demand.specs.declared.Demand.{Demand}
 use Rattle.demand.specs.declared.Called.{Called}
-use Rattle.demand.specs.Demand.{marked, entryDemand, flowDemand, catchDemand, nodeDemand, calledIn, thrownIn}
-use Rattle.rules.specs.declared.Leads.{Leads}
-use Rattle.rules.specs.declared.Leads.the-variants as leads
-use Rattle.rules.specs.declared.Source.{Source}
-use Rattle.rules.specs.declared.Source.the-variants.{Start, Entries, Flow, Catches, Nodes, Calls}
-use Rattle.rules.specs.Tests.{effectUnder, met, targetOf, allFor, startUnder, afterCall, intoCall, caughtUnder}
-use Rattle.rules.specs.Broken.{countOf}
+use Rattle.demand.specs.Demand.{tableAt, entryDemand, flowDemand, catchDemand, nodeDemand, calledIn, thrownIn}
+use Rattle.rules.specs.Tests.{met, startUnder, afterCall, intoCall, caughtUnder}
 use Rattle.lower.specs.Lower.{effectTo, stockTo}
-use Rattle.sweep.specs.Turn.{inTurn, turned}
+use Rattle.sheet.specs.Under.{effectUnder}
 
 -- what is asked is done
 unfoldable pub meetTo : List ℕ → Shape → Demand → List ℕ
 meetTo s x d = cond (d .asks) (effectTo s x (d .at) (d .most)) s
 
--- the sources, in their order
-abbrev pub sourceAt : ℕ → Source
-sourceAt zero = Start
-sourceAt (suc zero) = Entries
-sourceAt (suc (suc zero)) = Flow
-sourceAt (suc (suc (suc zero))) = Catches
-sourceAt (suc (suc (suc (suc zero)))) = Nodes
-sourceAt (suc (suc (suc (suc (suc k))))) = Calls
+-- which of n rows comes at step k, forwards or backwards
+abbrev pub turned : Bool → ℕ → ℕ → ℕ
+turned backwards n k = cond backwards (n - 1 - k) k
 
 module _ (f : List ℕ) (t : Tables) (x : Shape) where
   -- 1. Method 0: the opening stock.
   unfoldable pub startTo : List ℕ → List ℕ
   startTo s = stockTo s x (methodAt x 0) (openingIn f t)
 
-  -- the node that a row of the flow or of the catches leads to
-  unfoldable pub targetTo : Leads → Effect → ℕ → List ℕ → List ℕ
+  -- the node that row j leads to
+  unfoldable pub targetTo : Table → Effect → ℕ → List ℕ → List ℕ
   targetTo table e j s = effectTo s x (nodeAt x (targetOf f t table j)) e
 
   -- 7, of a marked call: each flow row of the call, where the method called returns
   unfoldable pub afterTo : Called → List ℕ → List ℕ
-  afterTo c s =
-      cond (c .returns)
-      (inTurn (targetTo leads.Flow (c .rounds .whole)) (firstRow f t sorted.Flow (c .node)) (firstRow f t sorted.Flow (c .node + 1) - firstRow f t sorted.Flow (c .node)) s)
-      s
+  afterTo c s = cond (c .returns) (eachIn (targetTo Flow (c .rounds .whole)) (flowOf f t (c .node)) s) s
 
   -- 8, of a marked call: the stock of the method called, where the call's own method is called
   unfoldable pub intoTo : Called → List ℕ → List ℕ
@@ -62,8 +52,7 @@ module _ (f : List ℕ) (t : Tables) (x : Shape) where
 
   -- 9, of a marked call n that the exception e comes to with y: each catch row for e
   unfoldable pub caughtTo : ℕ → ℕ → Effect → List ℕ → List ℕ
-  caughtTo n e y s =
-      inTurn (targetTo leads.Catches y) (firstRow f t sorted.Catches (8 * n + e)) (firstRow f t sorted.Catches (8 * n + e + 1) - firstRow f t sorted.Catches (8 * n + e)) s
+  caughtTo n e y s = eachIn (targetTo Catches y) (catchesOf f t n e) s
 
   -- 9 and 10: its catch rows, or the caller's exit
   unfoldable pub leavingTo : ℕ → ℕ → Effect → List ℕ → List ℕ
@@ -85,32 +74,42 @@ module _ (f : List ℕ) (t : Tables) (x : Shape) where
   unfoldable pub calledHolds : Called → List ℕ → Bool
   calledHolds c s = cond (c .marked) (afterCall f t x s c && (intoCall f t x s c && allFor (thrownHolds c s) 0 8)) true
 
-  -- row k of a source
-  abbrev pub rowTo : Source → ℕ → List ℕ → List ℕ
-  rowTo Start k s = startTo s
-  rowTo Entries k s = meetTo s x (entryDemand f x k)
-  rowTo Flow k s = meetTo s x (flowDemand f t x s k)
-  rowTo Catches k s = meetTo s x (catchDemand f t x s k)
+  -- row k of a table; a row of the trailer or of the opening stock asks nothing
+  abbrev pub rowTo : Table → ℕ → List ℕ → List ℕ
+  rowTo Trailer k s = s
+  rowTo Methods k s = meetTo s x (entryDemand f x k)
   rowTo Nodes k s = meetTo s x (nodeDemand f t x s k)
+  rowTo Flow k s = meetTo s x (flowDemand f t x s k)
   rowTo Calls k s = calledTo (calledIn f t x s k) s
+  rowTo Catches k s = meetTo s x (catchDemand f t x s k)
+  rowTo Opening k s = s
 
-  abbrev pub rowHolds : Source → List ℕ → ℕ → Bool
-  rowHolds Start s k = startUnder f t x s
-  rowHolds Entries s k = met s x (entryDemand f x k)
-  rowHolds Flow s k = met s x (flowDemand f t x s k)
-  rowHolds Catches s k = met s x (catchDemand f t x s k)
+  abbrev pub rowHolds : Table → List ℕ → ℕ → Bool
+  rowHolds Trailer s k = true
+  rowHolds Methods s k = met s x (entryDemand f x k)
   rowHolds Nodes s k = met s x (nodeDemand f t x s k)
+  rowHolds Flow s k = met s x (flowDemand f t x s k)
   rowHolds Calls s k = calledHolds (calledIn f t x s k) s
+  rowHolds Catches s k = met s x (catchDemand f t x s k)
+  rowHolds Opening s k = true
 
-  -- all rows of a source, forwards or backwards
-  unfoldable pub tableTo : Bool → Source → List ℕ → List ℕ
-  tableTo backwards source s = inTurn (λ k. rowTo source (turned backwards (countOf t source) k)) 0 (countOf t source) s
+  -- all rows of a table, forwards or backwards
+  unfoldable pub tableTo : Bool → Table → List ℕ → List ℕ
+  tableTo backwards table s = inTurn (λ k. rowTo table (turned backwards (rowsOf t table) k)) 0 (rowsOf t table) s
 
-  unfoldable pub tableHolds : Bool → Source → List ℕ → Bool
-  tableHolds backwards source s = allFor (λ k. rowHolds source s (turned backwards (countOf t source) k)) 0 (countOf t source)
+  unfoldable pub tableHolds : Bool → Table → List ℕ → Bool
+  tableHolds backwards table s = allFor (λ k. rowHolds table s (turned backwards (rowsOf t table) k)) 0 (rowsOf t table)
 
+  -- the tables, in their order
+  abbrev pub tablesTo : Bool → List ℕ → List ℕ
+  tablesTo backwards s = inTurn (λ i. tableTo backwards (tableAt i)) 0 5 s
+
+  abbrev pub tablesHold : Bool → List ℕ → Bool
+  tablesHold backwards s = allFor (λ i. tableHolds backwards (tableAt i) s) 0 5
+
+  -- rule 1, and then the tables
   unfoldable pub sweepTo : Bool → List ℕ → List ℕ
-  sweepTo backwards s = inTurn (λ i. tableTo backwards (sourceAt i)) 0 6 s
+  sweepTo backwards s = tablesTo backwards (startTo s)
 
   unfoldable pub sweepHolds : Bool → List ℕ → Bool
-  sweepHolds backwards s = allFor (λ i. tableHolds backwards (sourceAt i) s) 0 6
+  sweepHolds backwards s = startUnder f t x s && tablesHold backwards s

@@ -1,8 +1,10 @@
 -- What the trailer says of the tables, field by field.
-use Prim.Native.Nat.{ℕ, _+_, _*_}
+use Prim.Native.Nat.{ℕ, _+_, _*_, _≤_}
 use mathlib.Core.Path.{_≡_, refl}
 use mathlib.Core.List.{List}
-use Rattle.tables.specs.Trailer.{trailer, tablesOf}
+use native.Mathlib.Omega.{arith}
+use Rattle.words.proofs.Read.{word-past}
+use Rattle.tables.specs.Trailer.{trailerAt, trailer, tablesOf}
 
 module _ (f : List ℕ) where
   pub methods-are : tablesOf f .methods ≡ trailer f 0
@@ -33,3 +35,8 @@ module _ (f : List ℕ) where
   pub end-is : tablesOf f .end ≡ 2 * tablesOf f .methods + 6 * tablesOf f .nodes + 4 * tablesOf f .flows + 4 * tablesOf f .calls + 6 * tablesOf f .catches + 4 * tablesOf f .types
   unfolding tablesOf
   end-is = refl
+
+-- the trailer is the last 14 bytes, so it has seven words
+pub trailer-past : (f : List ℕ) (i : ℕ) → 7 ≤ i → trailer f i ≡ 0
+unfolding trailer trailerAt
+trailer-past f i h = word-past f _ (omega arith)

@@ -1,3 +1,4 @@
 pub mod Trailer
+pub mod Rows
 pub mod Fields
 pub mod Kinds

@@ -1,21 +1,23 @@
 // Where the six tables of a graph file stand, and the fields of their rows. What lies past the end of the file reads as 0.
 ghost use mathlib.Core.Path.{_≡_};
-ghost use Prim.Native.Nat.{_<_};
+ghost use Prim.Native.Nat.{_+_, _*_, _<_};
+ghost use Rattle.words.specs.Bytes.{byteAt, wordAt};
 ghost use Rattle.tables.specs.Trailer.{trailerAt, trailer, tablesOf};
+ghost use Rattle.tables.specs.Rows.{rowsOf};
 ghost use Rattle.tables.specs.Fields.{entryOf, nodeMethod, nodeKind, nodeNumber, nodeCount, nodeRights, flowFrom, flowTo, callNode, callMethod, catchFrom, catchException, catchTo, openingRights, openingCount};
 
 // The kinds of nodes.
-pub const PLAIN: usize = 0;
+pub const PLAIN: u16 = 0;
 
-pub const GRANT: usize = 1;
+pub const GRANT: u16 = 1;
 
-pub const DRAW: usize = 2;
+pub const DRAW: u16 = 2;
 
-pub const CALL: usize = 3;
+pub const CALL: u16 = 3;
 
-pub const RETURN: usize = 4;
+pub const RETURN: u16 = 4;
 
-pub const THROW: usize = 5;
+pub const THROW: u16 = 5;
 
 // The trailer's six counts, and where each table but the first starts. The tables end where the trailer has to start.
 pub struct Tables {
@@ -33,6 +35,32 @@ pub struct Tables {
     pub end: u32,
 }
 
+// The six tables, and the trailer's counts as one more.
+pub enum Table {
+    Trailer,
+    Methods,
+    Nodes,
+    Flow,
+    Calls,
+    Catches,
+    Opening,
+}
+
+// How many rows the table has.
+pub fn rows(t: Tables, table: Table) -> u16
+    ensures { λ r. ⌜ r ≡ rowsOf t table ⌝ }
+{
+    match table {
+        Table::Trailer => 6,
+        Table::Methods => t.methods,
+        Table::Nodes => t.nodes,
+        Table::Flow => t.flows,
+        Table::Calls => t.calls,
+        Table::Catches => t.catches,
+        Table::Opening => t.types,
+    }
+}
+
 // Where the trailer starts.
 fn trailer_at(f: &[u8]) -> usize
     ensures { λ r. ⌜ (r ≡ trailerAt (now (f .entry))) × (r < 18446744073709551602) ⌝ }
@@ -40,12 +68,14 @@ fn trailer_at(f: &[u8]) -> usize
     if f.len() < 14 { 0 } else { f.len() - 14 }
 }
 
-// The trailer's word i.
-pub fn trailer_word(f: &[u8], i: usize) -> usize
-    requires { ⌜ i < 7 ⌝ }
-    ensures { λ r. ⌜ (r ≡ trailer (now (f .entry)) i) × (r < 65536) ⌝ }
+// The trailer's word i. It has seven; past them lies the end of the file.
+pub fn trailer_word(f: &[u8], i: u16) -> u16
+    ensures { λ r. ⌜ r ≡ trailer (now (f .entry)) i ⌝ }
 {
-    words::word(f, trailer_at(f) + 2 * i)
+    if i < 7 {
+        return words::word(f, trailer_at(f) + 2 * (i as usize)) as u16;
+    }
+    0
 }
 
 // The tables of a file, read once.
@@ -58,135 +88,140 @@ pub fn read(f: &[u8]) -> Tables
     let calls = trailer_word(f, 3);
     let catches = trailer_word(f, 4);
     let types = trailer_word(f, 5);
-    let nodesat = 2 * methods;
-    let flowsat = nodesat + 6 * nodes;
-    let callsat = flowsat + 4 * flows;
-    let catchesat = callsat + 4 * calls;
-    let openingat = catchesat + 6 * catches;
-    let end = openingat + 4 * types;
+    let nodesat = 2 * (methods as u32);
+    let flowsat = nodesat + 6 * (nodes as u32);
+    let callsat = flowsat + 4 * (flows as u32);
+    let catchesat = callsat + 4 * (calls as u32);
+    let openingat = catchesat + 6 * (catches as u32);
+    let end = openingat + 4 * (types as u32);
     Tables {
-        methods: methods as u16,
-        nodes: nodes as u16,
-        flows: flows as u16,
-        calls: calls as u16,
-        catches: catches as u16,
-        types: types as u16,
-        nodesat: nodesat as u32,
-        flowsat: flowsat as u32,
-        callsat: callsat as u32,
-        catchesat: catchesat as u32,
-        openingat: openingat as u32,
-        end: end as u32,
+        methods,
+        nodes,
+        flows,
+        calls,
+        catches,
+        types,
+        nodesat,
+        flowsat,
+        callsat,
+        catchesat,
+        openingat,
+        end,
     }
 }
 
-// The entry node of method m.
-pub fn entry(f: &[u8], m: usize) -> usize
-    requires { ⌜ m < 65536 ⌝ }
-    ensures { λ r. ⌜ (r ≡ entryOf (now (f .entry)) m) × (r < 65536) ⌝ }
+// Where row k starts in a table of rows of `width` bytes that starts at `start`.
+fn row_at(start: u32, width: u16, k: u16) -> usize
+    ensures { λ r. ⌜ (r ≡ start + width * k) × (r < 8589934592) ⌝ }
 {
-    words::word(f, 2 * m)
+    start as usize + width as usize * (k as usize)
+}
+
+// A word of that row, and a byte of it.
+fn word_of(f: &[u8], start: u32, width: u16, k: u16, column: u16) -> u16
+    ensures { λ r. ⌜ r ≡ wordAt (now (f .entry)) (start + width * k + column) ⌝ }
+{
+    words::word(f, row_at(start, width, k) + column as usize) as u16
+}
+
+fn byte_of(f: &[u8], start: u32, width: u16, k: u16, column: u16) -> u16
+    ensures { λ r. ⌜ (r ≡ byteAt (now (f .entry)) (start + width * k + column)) × (r < 256) ⌝ }
+{
+    words::byte(f, row_at(start, width, k) + column as usize) as u16
+}
+
+// The entry node of method m.
+pub fn entry(f: &[u8], m: u16) -> u16
+    ensures { λ r. ⌜ r ≡ entryOf (now (f .entry)) m ⌝ }
+{
+    word_of(f, 0, 2, m, 0)
 }
 
 // The fields of node n.
-pub fn node_method(f: &[u8], t: Tables, n: usize) -> usize
-    requires { ⌜ n < 65536 ⌝ }
+pub fn node_method(f: &[u8], t: Tables, n: u16) -> u16
     ensures { λ r. ⌜ (r ≡ nodeMethod (now (f .entry)) t n) × (r < 256) ⌝ }
 {
-    words::byte(f, t.nodesat as usize + 6 * n)
+    byte_of(f, t.nodesat, 6, n, 0)
 }
 
-pub fn node_kind(f: &[u8], t: Tables, n: usize) -> usize
-    requires { ⌜ n < 65536 ⌝ }
+pub fn node_kind(f: &[u8], t: Tables, n: u16) -> u16
     ensures { λ r. ⌜ (r ≡ nodeKind (now (f .entry)) t n) × (r < 256) ⌝ }
 {
-    words::byte(f, t.nodesat as usize + 6 * n + 1)
+    byte_of(f, t.nodesat, 6, n, 1)
 }
 
-pub fn node_number(f: &[u8], t: Tables, n: usize) -> usize
-    requires { ⌜ n < 65536 ⌝ }
+pub fn node_number(f: &[u8], t: Tables, n: u16) -> u16
     ensures { λ r. ⌜ (r ≡ nodeNumber (now (f .entry)) t n) × (r < 256) ⌝ }
 {
-    words::byte(f, t.nodesat as usize + 6 * n + 2)
+    byte_of(f, t.nodesat, 6, n, 2)
 }
 
-pub fn node_count(f: &[u8], t: Tables, n: usize) -> usize
-    requires { ⌜ n < 65536 ⌝ }
+pub fn node_count(f: &[u8], t: Tables, n: u16) -> u16
     ensures { λ r. ⌜ (r ≡ nodeCount (now (f .entry)) t n) × (r < 256) ⌝ }
 {
-    words::byte(f, t.nodesat as usize + 6 * n + 3)
+    byte_of(f, t.nodesat, 6, n, 3)
 }
 
-pub fn node_rights(f: &[u8], t: Tables, n: usize) -> usize
-    requires { ⌜ n < 65536 ⌝ }
-    ensures { λ r. ⌜ (r ≡ nodeRights (now (f .entry)) t n) × (r < 65536) ⌝ }
+pub fn node_rights(f: &[u8], t: Tables, n: u16) -> u16
+    ensures { λ r. ⌜ r ≡ nodeRights (now (f .entry)) t n ⌝ }
 {
-    words::word(f, t.nodesat as usize + 6 * n + 4)
+    word_of(f, t.nodesat, 6, n, 4)
 }
 
 // The fields of row k of the flow,
-pub fn flow_from(f: &[u8], t: Tables, k: usize) -> usize
-    requires { ⌜ k < 65536 ⌝ }
-    ensures { λ r. ⌜ (r ≡ flowFrom (now (f .entry)) t k) × (r < 65536) ⌝ }
+pub fn flow_from(f: &[u8], t: Tables, k: u16) -> u16
+    ensures { λ r. ⌜ r ≡ flowFrom (now (f .entry)) t k ⌝ }
 {
-    words::word(f, t.flowsat as usize + 4 * k)
+    word_of(f, t.flowsat, 4, k, 0)
 }
 
-pub fn flow_to(f: &[u8], t: Tables, k: usize) -> usize
-    requires { ⌜ k < 65536 ⌝ }
-    ensures { λ r. ⌜ (r ≡ flowTo (now (f .entry)) t k) × (r < 65536) ⌝ }
+pub fn flow_to(f: &[u8], t: Tables, k: u16) -> u16
+    ensures { λ r. ⌜ r ≡ flowTo (now (f .entry)) t k ⌝ }
 {
-    words::word(f, t.flowsat as usize + 4 * k + 2)
+    word_of(f, t.flowsat, 4, k, 2)
 }
 
 // of the calls,
-pub fn call_node(f: &[u8], t: Tables, k: usize) -> usize
-    requires { ⌜ k < 65536 ⌝ }
-    ensures { λ r. ⌜ (r ≡ callNode (now (f .entry)) t k) × (r < 65536) ⌝ }
+pub fn call_node(f: &[u8], t: Tables, k: u16) -> u16
+    ensures { λ r. ⌜ r ≡ callNode (now (f .entry)) t k ⌝ }
 {
-    words::word(f, t.callsat as usize + 4 * k)
+    word_of(f, t.callsat, 4, k, 0)
 }
 
-pub fn call_method(f: &[u8], t: Tables, k: usize) -> usize
-    requires { ⌜ k < 65536 ⌝ }
-    ensures { λ r. ⌜ (r ≡ callMethod (now (f .entry)) t k) × (r < 65536) ⌝ }
+pub fn call_method(f: &[u8], t: Tables, k: u16) -> u16
+    ensures { λ r. ⌜ r ≡ callMethod (now (f .entry)) t k ⌝ }
 {
-    words::word(f, t.callsat as usize + 4 * k + 2)
+    word_of(f, t.callsat, 4, k, 2)
 }
 
 // of the catches,
-pub fn catch_from(f: &[u8], t: Tables, k: usize) -> usize
-    requires { ⌜ k < 65536 ⌝ }
-    ensures { λ r. ⌜ (r ≡ catchFrom (now (f .entry)) t k) × (r < 65536) ⌝ }
+pub fn catch_from(f: &[u8], t: Tables, k: u16) -> u16
+    ensures { λ r. ⌜ r ≡ catchFrom (now (f .entry)) t k ⌝ }
 {
-    words::word(f, t.catchesat as usize + 6 * k)
+    word_of(f, t.catchesat, 6, k, 0)
 }
 
-pub fn catch_exception(f: &[u8], t: Tables, k: usize) -> usize
-    requires { ⌜ k < 65536 ⌝ }
-    ensures { λ r. ⌜ (r ≡ catchException (now (f .entry)) t k) × (r < 65536) ⌝ }
+pub fn catch_exception(f: &[u8], t: Tables, k: u16) -> u16
+    ensures { λ r. ⌜ r ≡ catchException (now (f .entry)) t k ⌝ }
 {
-    words::word(f, t.catchesat as usize + 6 * k + 2)
+    word_of(f, t.catchesat, 6, k, 2)
 }
 
-pub fn catch_to(f: &[u8], t: Tables, k: usize) -> usize
-    requires { ⌜ k < 65536 ⌝ }
-    ensures { λ r. ⌜ (r ≡ catchTo (now (f .entry)) t k) × (r < 65536) ⌝ }
+pub fn catch_to(f: &[u8], t: Tables, k: u16) -> u16
+    ensures { λ r. ⌜ r ≡ catchTo (now (f .entry)) t k ⌝ }
 {
-    words::word(f, t.catchesat as usize + 6 * k + 4)
+    word_of(f, t.catchesat, 6, k, 4)
 }
 
 // and of the opening stock.
-pub fn opening_rights(f: &[u8], t: Tables, k: usize) -> usize
-    requires { ⌜ k < 65536 ⌝ }
-    ensures { λ r. ⌜ (r ≡ openingRights (now (f .entry)) t k) × (r < 65536) ⌝ }
+pub fn opening_rights(f: &[u8], t: Tables, k: u16) -> u16
+    ensures { λ r. ⌜ r ≡ openingRights (now (f .entry)) t k ⌝ }
 {
-    words::word(f, t.openingat as usize + 4 * k)
+    word_of(f, t.openingat, 4, k, 0)
 }
 
-pub fn opening_count(f: &[u8], t: Tables, k: usize) -> usize
-    requires { ⌜ k < 65536 ⌝ }
-    ensures { λ r. ⌜ (r ≡ openingCount (now (f .entry)) t k) × (r < 65536) ⌝ }
+pub fn opening_count(f: &[u8], t: Tables, k: u16) -> u16
+    ensures { λ r. ⌜ r ≡ openingCount (now (f .entry)) t k ⌝ }
 {
-    words::word(f, t.openingat as usize + 4 * k + 2)
+    word_of(f, t.openingat, 4, k, 2)
 }

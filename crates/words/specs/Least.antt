@@ -1,7 +1,7 @@
 -- The least of the numbers that rows give.
-use Prim.Native.Nat.{ℕ, zero, suc, min}
+use Prim.Native.Nat.{ℕ, min}
+use Rattle.words.specs.Turn.{inTurn}
 
 -- the least of `top` and the numbers p gives below n
-unfoldable pub leastOf : ℕ → (ℕ → ℕ) → ℕ → ℕ
-leastOf top p zero = top
-leastOf top p (suc n) = min (leastOf top p n) (p n)
+abbrev pub leastOf : ℕ → (ℕ → ℕ) → ℕ → ℕ
+leastOf top p n = inTurn (λ k least. min least (p k)) 0 n top

@@ -1,3 +1,5 @@
 pub mod Bytes
 pub mod Lowest
+pub mod Write
+pub mod Turn
 pub mod Least

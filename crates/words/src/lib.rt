@@ -1,9 +1,9 @@
-// Bytes and little-endian words of a lent slice. What lies past the end reads as 0, so no caller has an index to show. And the
-// smaller of two numbers.
+// Bytes and little-endian words of a lent slice, read and written. What lies past the end reads as 0, so no reader has an index to show.
 ghost use mathlib.Core.Path.{_≡_};
-ghost use Prim.Native.Nat.{_+_, _<_, _≤_, min};
-ghost use lib.ListN.{length};
+ghost use Prim.Native.Nat.{_+_, _*_, _<_, _≤_, min};
+ghost use lib.ListN.{length, getD};
 ghost use Rattle.words.specs.Bytes.{byteAt, wordAt};
+ghost use Rattle.words.specs.Write.{splice, wordBytes, bytesOf};
 
 // The byte at `at`.
 pub fn byte(s: &[u8], at: usize) -> usize
@@ -29,6 +29,27 @@ pub fn inner_word(s: &[u8], at: usize) -> usize
     ensures { λ r. ⌜ (r ≡ wordAt (now (s .entry)) at) × (r < 65536) ⌝ }
 {
     s[at] as usize + 256 * (s[at + 1] as usize)
+}
+
+// The word v is written at `at`.
+pub fn put_word(s: &mut [u8], at: usize, v: u16)
+    requires { ⌜ at + 2 ≤ length (now s) ⌝ }
+    ensures { λ _. ⌜ now (s .exit) ≡ splice (now (s .entry)) at (wordBytes v) ⌝ }
+{
+    s[at] = (v % 256) as u8;
+    s[at + 1] = (v / 256) as u8;
+}
+
+// A slice is filled with the words v.
+pub fn put_words(s: &mut [u8], v: &[u16])
+    requires { ⌜ length (now s) ≡ 2 * length (now v) ⌝ }
+    ensures { λ _. ⌜ now (s .exit) ≡ bytesOf (λ k. getD (now (v .entry)) k 0) (length (now (v .entry))) ⌝ }
+{
+    let mut k = 0;
+    while k < v.len() {
+        put_word(s, 2 * k, v[k]);
+        k += 1;
+    }
 }
 
 // The smaller of two numbers.

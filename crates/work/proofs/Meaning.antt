@@ -30,8 +30,9 @@ use Rattle.nodes.proofs.Setting.{setting}
 use Rattle.layout.specs.declared.Shape.{Shape}
 use Rattle.layout.specs.Layout.{blockCount, sheetBytes}
 use Rattle.formed.specs.Ill.{illBlock, firstIll}
+use Rattle.formed.specs.Sheet.{sheetIn}
 use Rattle.rules.specs.Broken.{brokenOf}
-use Rattle.rules.specs.Sheet.{sheetIn, WellFormed, Holds, IsReached, stockIn}
+use Rattle.rules.specs.Sheet.{WellFormed, Holds, IsReached, stockIn}
 use Rattle.permit.specs.Check.{uncoveredAt}
 use Rattle.permit.specs.Meaning.{IsCovered}
 use Rattle.permit.proofs.Draws.{uncovered-says, covered-says}

@@ -1,15 +1,13 @@
 -- A well-formed block is settled by its mark and what it says there.
-use Prim.Native.Nat.{ℕ, zero, suc, _+_, _-_, _*_, _/_, _%_, _≤_, _<_}
-use mathlib.Core.Path.{_≡_, refl, sym, ap, _∙_}
+use Prim.Native.Nat.{ℕ, _+_, _-_, _*_, _/_, _%_, _≤_, _<_}
+use mathlib.Core.Path.{_≡_, sym, ap, _∙_}
 use mathlib.Core.Logic.{_⊎_, inl, inr, ⊎-elim}
 use mathlib.Core.Bool.{true, false}
 use mathlib.Core.List.{List}
 use native.Mathlib.Decide.{ℕ-discrete}
 use native.Mathlib.Nat.{div-add-mod, div-lt-iff-lt-mul, mod-lt}
 use native.Mathlib.Omega.{arith}
-use borrow.Author.Tests.{lt-ltb}
-use Rattle.effect.specs.Six.{heldAt, oneAt, heldIf, noneHeld}
-use Rattle.effect.specs.Whole.{normalOf, oneIf}
+use Rattle.effect.specs.Whole.{normalOf}
 use Rattle.effect.proofs.Laws.{stock-anti, at-most-anti}
 use Rattle.effect.proofs.Coordinate.{stock-at-complete, at-most-at-complete}
 use Rattle.model.specs.Rules.{Below, AtMost}
@@ -17,59 +15,35 @@ use Rattle.model.specs.Stocks.{permits}
 use Rattle.layout.specs.declared.Shape.{Shape}
 use Rattle.layout.specs.Layout.{stockSize, effectSize, isStock, blockSize, blockAt}
 use Rattle.layout.proofs.Blocks.{stock-size, effect-size}
-use Rattle.sheet.specs.Read.{sheetWord, markAt, heldWords, oneWords, stockAt, effectAt}
-use Rattle.sheet.specs.Write.{heldField, oneField}
+use Rattle.sheet.specs.Read.{sheetWord, markAt, stockAt, effectAt}
+use Rattle.sheet.specs.Write.{stockField, effectField}
 use Rattle.sheet.proofs.Same.{SameWords}
-use Rattle.sheet.proofs.Back.{held-read, one-read, stock-read, effect-read}
+use Rattle.sheet.proofs.Back.{stock-word-read, effect-word-read, stock-read, effect-read}
 use Rattle.formed.specs.Ill.{countsFit}
 use Rattle.formed.proofs.Judged.{Formed, counts-le}
 
--- the words of a type are its fields
-held-word : (s : List ℕ) (v j : ℕ) → j < 2 → sheetWord s (v + j) ≡ heldField j (heldWords s v)
-held-word s v zero l = ap (sheetWord s) (omega arith)
-held-word s v (suc zero) l = refl
-held-word s v (suc (suc j)) l = absurd (omega arith)
-
-one-word : (s : List ℕ) (v j : ℕ) → j < 4 → sheetWord s (v + j) ≡ oneField j (oneWords s v)
-one-word s v zero l = ap (sheetWord s) (omega arith)
-one-word s v (suc zero) l = refl
-one-word s v (suc (suc zero)) l = refl
-one-word s v (suc (suc (suc zero))) l = refl
-one-word s v (suc (suc (suc (suc j)))) l = absurd (omega arith)
-
 -- a block's words are its mark, then z of each type
 block-words : (z t w : ℕ) (s r : List ℕ) → 0 < z → markAt s w ≡ markAt r w
-    → ((k j : ℕ) → k < t → j < z → sheetWord s (w + 1 + z * k + j) ≡ sheetWord r (w + 1 + z * k + j)) → SameWords s r w (1 + z * t)
+    → ((k j : ℕ) → k < t → j < z → sheetWord s (w + (1 + j + z * k)) ≡ sheetWord r (w + (1 + j + z * k))) → SameWords s r w (1 + z * t)
 block-words z t w s r some mark h v from to = elim (ℕ-discrete v w) [
   | yes q ↦ rw q mark
   | no q ↦
       let i = v - w - 1 in
-      let p : w + 1 + z * (i / z) + i % z ≡ v = omega (arith, div-add-mod i z) in
+      let p : w + (1 + i % z + z * (i / z)) ≡ v = omega (arith, div-add-mod i z) in
       rw p at (h (i / z) (i % z) (div-lt-iff-lt-mul some .1 (omega arith)) (mod-lt i some))
 ]
 
 -- so they follow from its mark and what is read of it
-module _ (t w : ℕ) (few : t ≤ 6) where
-  stock-field : (s : List ℕ) (k j : ℕ) → k < t → j < 2 → sheetWord s (w + 1 + 2 * k + j) ≡ heldField j (heldAt (stockAt s t w) k)
-  stock-field s k j u l =
-      held-word s (w + 1 + 2 * k) j l
-      ∙ ap (heldField j) (sym (held-read s t w k (omega arith) ∙ ap (λ b. heldIf b (heldWords s (w + 1 + 2 * k)) noneHeld) (lt-ltb k t u)))
+module _ (t w : ℕ) (few : t ≤ 6) (s r : List ℕ) (mark : markAt s w ≡ markAt r w) where
+  stock-words : stockAt s t w ≡ stockAt r t w → SameWords s r w (stockSize t)
+  stock-words e =
+      block-words 2 t w s r (omega arith) mark
+      (λ k j u l. stock-word-read s t w k u (omega arith) j l ∙ ap (λ x. stockField x k j) e ∙ sym (stock-word-read r t w k u (omega arith) j l))
 
-  effect-field : (s : List ℕ) (k j : ℕ) → k < t → j < 4 → sheetWord s (w + 1 + 4 * k + j) ≡ oneField j (oneAt (effectAt s t w) k)
-  effect-field s k j u l =
-      one-word s (w + 1 + 4 * k) j l
-      ∙ ap (oneField j) (sym (one-read s t w k (omega arith) ∙ ap (λ b. oneIf b (oneWords s (w + 1 + 4 * k))) (lt-ltb k t u)))
-
-  module _ (s r : List ℕ) (mark : markAt s w ≡ markAt r w) where
-    stock-words : stockAt s t w ≡ stockAt r t w → SameWords s r w (stockSize t)
-    stock-words e =
-        block-words 2 t w s r (omega arith) mark
-        (λ k j u l. stock-field s k j u l ∙ ap (λ h. heldField j (heldAt h k)) e ∙ sym (stock-field r k j u l))
-
-    effect-words : effectAt s t w ≡ effectAt r t w → SameWords s r w (effectSize t)
-    effect-words e =
-        block-words 4 t w s r (omega arith) mark
-        (λ k j u l. effect-field s k j u l ∙ ap (λ h. oneField j (oneAt h k)) e ∙ sym (effect-field r k j u l))
+  effect-words : effectAt s t w ≡ effectAt r t w → SameWords s r w (effectSize t)
+  effect-words e =
+      block-words 4 t w s r (omega arith) mark
+      (λ k j u l. effect-word-read s t w k u (omega arith) j l ∙ ap (λ x. effectField x k j) e ∙ sym (effect-word-read r t w k u (omega arith) j l))
 
 -- stocks whose counts fit, and normal effects, that are at most each other are the same
 module _ (t w : ℕ) where
@@ -77,13 +51,13 @@ module _ (t w : ℕ) where
       → Below permits (stockAt r t w) (stockAt s t w) → stockAt s t w ≡ stockAt r t w
   one-stock s r c d p q =
       stock-anti (stockAt s t w) (stockAt r t w) (stock-read s t w .six) (stock-read r t w .six) (counts-le _ c) (counts-le _ d)
-      (stock-at-complete _ _ (λ k l. stock-read s t w .fit k l .rights-fit) p) (stock-at-complete _ _ (λ k l. stock-read r t w .fit k l .rights-fit) q)
+      (stock-at-complete _ _ (λ k l. stock-read s t w .rights .words k l) p) (stock-at-complete _ _ (λ k l. stock-read r t w .rights .words k l) q)
 
   one-effect : (s r : List ℕ) → normalOf (effectAt s t w) ≡ true → normalOf (effectAt r t w) ≡ true → AtMost permits (effectAt s t w) (effectAt r t w)
       → AtMost permits (effectAt r t w) (effectAt s t w) → effectAt s t w ≡ effectAt r t w
   one-effect s r m n p q =
       at-most-anti (effectAt s t w) (effectAt r t w) m n (effect-read s t w .six) (effect-read r t w .six)
-      (at-most-at-complete _ _ (λ k l. effect-read s t w .fit k l .keepmax-fits) p) (at-most-at-complete _ _ (λ k l. effect-read r t w .fit k l .keepmax-fits) q)
+      (at-most-at-complete _ _ (λ k l. effect-read s t w .keepmax .words k l) p) (at-most-at-complete _ _ (λ k l. effect-read r t w .keepmax .words k l) q)
 
 -- where r marks a block, s does and says at most the same there
 abbrev pub StockUnder : (t w : ℕ) → List ℕ → List ℕ → Type 0

@@ -11,7 +11,7 @@ use Rattle.tables.specs.Trailer.{tablesOf}
 use Rattle.graph.specs.Judge.{judgeIn, judgeOf}
 use Rattle.graph.specs.Judgement.{shapeOf}
 use Rattle.layout.specs.declared.Shape.{Shape}
-use Rattle.layout.specs.Layout.{Within, sheetBytes}
+use Rattle.layout.specs.Layout.{sheetBytes}
 use Rattle.sheet.specs.Write.{blanked}
 use Rattle.permit.specs.Check.{verdictOf}
 use Rattle.lower.proofs.Good.{height, Good}
@@ -66,13 +66,13 @@ module _ {f : List ℕ} {t : Tables} {x : Shape} {s : List ℕ} (ready : Ready f
 
 -- a sheet that is as long as the file asks for is ready, and one that is not is refused
 abbrev pub Fitting : List ℕ → Tables → Shape → Type 0
-Fitting f t x = (judgeIn f t ≡ Pass) × (t ≡ tablesOf f) × Within x × (x ≡ shapeOf t)
+Fitting f t x = (judgeIn f t ≡ Pass) × (t ≡ tablesOf f) × (x ≡ shapeOf t)
 
 module _ {f : List ℕ} {t : Tables} {x : Shape} {s : List ℕ} (fit : Fitting f t x) where
   pub make-ready : length s ≡ sheetBytes x → Ready f t x s
-  make-ready l = record { passed = fit .0; own = fit .1; within = fit .2; shaped = fit .3; long = l }
+  make-ready l = record { passed = fit .0; own = fit .1; shaped = fit .2; long = l }
 
   pub refused-length : (length s ≡ sheetBytes x → ⊥) → WorksOut f s s BadSheet
   refused-length n =
       wrong-length (subst (λ y. judgeIn f y ≡ Pass) (fit .1) (fit .0))
-      (λ l. n (subst (λ y. length s ≡ sheetBytes y) (sym (fit .3)) (subst (λ y. length s ≡ sheetBytes (shapeOf y)) (sym (fit .1)) l))) refl (says BadSheet)
+      (λ l. n (subst (λ y. length s ≡ sheetBytes y) (sym (fit .2)) (subst (λ y. length s ≡ sheetBytes (shapeOf y)) (sym (fit .1)) l))) refl (says BadSheet)

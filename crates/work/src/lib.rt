@@ -8,7 +8,6 @@ ghost use Rattle.answer.specs.declared.Answer.the-variants.{Pass};
 ghost use Rattle.tables.specs.Trailer.{tablesOf};
 ghost use Rattle.graph.specs.Judge.{judgeIn};
 ghost use Rattle.graph.specs.Judgement.{shapeOf, judgedOf};
-ghost use Rattle.layout.specs.Layout.{Within};
 ghost use Rattle.sheet.specs.Write.{blanked};
 ghost use Rattle.sweep.specs.Ready.{Ready};
 ghost use Rattle.work.specs.Swept.{Settled};
@@ -28,7 +27,7 @@ fn settle(f: &[u8], t: Tables, x: Shape, s: &mut [u8])
 
 // The sheet of a file that passes.
 fn of_passed(f: &[u8], t: Tables, x: Shape, s: &mut [u8]) -> Answer
-    requires { ⌜ (judgeIn (now f) t ≡ Pass) × (t ≡ tablesOf (now f)) × Within x × (x ≡ shapeOf t) ⌝ }
+    requires { ⌜ (judgeIn (now f) t ≡ Pass) × (t ≡ tablesOf (now f)) × (x ≡ shapeOf t) ⌝ }
     ensures { λ r. ⌜ WorksOut (now (f .entry)) (now (s .entry)) (now (s .exit)) r ⌝ }
 {
     if s.len() != layout::sheet_bytes(x) {

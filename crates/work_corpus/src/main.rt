@@ -4,9 +4,8 @@ use graph::Judgement;
 use layout::Shape;
 use libc::STDOUT_FILENO;
 ghost use mathlib.Core.Path.{_≡_};
-ghost use Prim.Native.Nat.{_<_, _≤_};
+ghost use Prim.Native.Nat.{_<_};
 ghost use Rattle.graph.specs.Judgement.{judgedOf};
-ghost use Rattle.layout.specs.Layout.{Within};
 
 fn print_number(n: u64) {
     io::print_decimal(STDOUT_FILENO, n);
@@ -23,7 +22,7 @@ fn end_line() {
 
 // The block of `size` words whose first word is w.
 fn print_block(s: &[u8], w: usize, size: usize)
-    requires { ⌜ (w < 33554432) × (size ≤ 25) ⌝ }
+    requires { ⌜ (w < 72057594037927936) × (size < 1048576) ⌝ }
 {
     print_number(w as u64);
     for k in 0..size {
@@ -32,9 +31,7 @@ fn print_block(s: &[u8], w: usize, size: usize)
     end_line();
 }
 
-fn print_blocks(x: Shape, s: &[u8])
-    requires { ⌜ Within x ⌝ }
-{
+fn print_blocks(x: Shape, s: &[u8]) {
     let count = layout::block_count(x);
     for b in 0..count {
         let w = layout::block_at(x, b);
@@ -46,7 +43,7 @@ fn print_blocks(x: Shape, s: &[u8])
 
 // The sheet s is as long as the judgement j of the file f says.
 fn work_out_in(name: &[u8], f: &[u8], j: Judgement, s: &mut [u8])
-    requires { ⌜ (j ≡ judgedOf (now f)) × Within (j .shape) ⌝ }
+    requires { ⌜ j ≡ judgedOf (now f) ⌝ }
 {
     let a = work::of_judged(f, j, s);
     io::write_all(STDOUT_FILENO, name);

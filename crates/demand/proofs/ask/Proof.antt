@@ -1,5 +1,4 @@
 use mathlib.Core.Path.{refl}
-use borrow.Author.Needs.{needs}
 use Rattle.demand.specs.Demand.{asked}
 use Rattle.demand.proofs.ask.Statement.{statement}
 use Rattle.demand.proofs.ask.Tie as tie
@@ -9,4 +8,4 @@ unfolding asked
 returns c = refl
 
 pub ask-spec : {M : Type 1} → statement M
-ask-spec = tie.close (tie.spec (λ c. search needs) returns)
+ask-spec = tie.close (tie.spec returns)

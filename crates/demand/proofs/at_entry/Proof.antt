@@ -1,5 +1,4 @@
 use mathlib.Core.Path.{ap, _∙_}
-use native.Mathlib.Omega.{arith}
 use borrow.Author.Needs.{needs}
 use Rattle.layout.specs.Layout.{nodeAt}
 use Rattle.demand.specs.Demand.{entryDemand}
@@ -12,14 +11,8 @@ unfolding entryDemand
 returns c =
     let w = c .before .before in
     let e = w .before in
-    ask-same (c .ask .ensures) (w .node-at .ensures .0 ∙ ap (nodeAt (e .before .before .args .x)) (e .entry .ensures .0)) (c .before .nothing-done .ensures .0)
+    ask-same (c .ask .ensures) (w .node-at .ensures ∙ ap (nodeAt (e .before .before .args .x)) (e .entry .ensures)) (c .before .nothing-done .ensures .0)
 
 pub at-entry-spec : {M : Type 1} → statement M
 at-entry-spec =
-    tie.close
-    (tie.spec
-    (λ c κs. c .before .pre .1)
-    (λ c κs. (c .before .before .pre .0, c .entry .ensures .1))
-    (λ c κs. search needs)
-    (λ c κs. omega (arith, c .before .node-at .ensures .1))
-    returns)
+    tie.close (tie.spec (λ c κs. search needs) (λ c κs. search needs) (λ c κs. search needs) (λ c κs. search needs) returns)

@@ -1,12 +1,9 @@
 use mathlib.Core.Path.{_≡_, sym, _∙_}
-use native.Mathlib.Omega.{arith}
 use denote.Ref.{now}
 use borrow.Author.Needs.{needs}
 use borrow.Author.Tests.{eq-eqb, ne-eqb}
 use Rattle.tables.specs.Fields.{nodeKind}
 use Rattle.tables.specs.Kinds.{returnKind, throwKind}
-use Rattle.refuse.proofs.Fit.{node-fit}
-use Rattle.graph.proofs.Passed.{judged}
 use Rattle.demand.specs.Demand.{leaveDemand}
 use Rattle.demand.proofs.at_marked.Statement.{statement}
 use Rattle.demand.proofs.at_marked.Tie as tie
@@ -18,15 +15,6 @@ returns c =
     let a = kind .before .before .before .args in
     let k : nodeKind (now (a .f)) (a .t) (a .n) ≡ returnKind = sym (kind .node-kind .ensures .0) ∙ c .before .if1 .taken in
     c .at-return .ensures ∙ simp (eq-eqb _ _ k)
-
-at-throw-requires : tie.Need-at-throw-requires
-at-throw-requires c κs =
-    let kind = c .before .before in
-    let start = kind .before .before .before in
-    let a = start .args in
-    let p = start .pre in
-    let fit = node-fit (now (a .f)) (a .t) (a .n) (judged (now (a .f)) (a .t) (p .0) .nodes (a .n) (p .3)) in
-    (p .0, p .1, p .2, omega (arith, fit .exception (sym (kind .node-kind .ensures .0) ∙ c .if2 .taken)))
 
 returns-2 : tie.Need-returns-2
 unfolding leaveDemand
@@ -52,10 +40,10 @@ pub at-marked-spec : {M : Type 1} → statement M
 at-marked-spec =
     tie.close
     (tie.spec
-    (λ c κs. c .before .before .pre .2)
-    (λ c κs. (c .before .before .before .before .pre .1, c .before .before .before .before .pre .2))
+    (λ c κs. search needs)
+    (λ c κs. search needs)
     returns
-    at-throw-requires
+    (λ c κs. search needs)
     returns-2
     (λ c κs. search needs)
     returns-3)

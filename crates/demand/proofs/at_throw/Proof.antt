@@ -1,7 +1,6 @@
 use Prim.Native.Nat.{_+_}
 use mathlib.Core.Path.{_≡_, sym, ap, _∙_}
 use mathlib.Core.Bool.{true, false}
-use native.Mathlib.Omega.{arith}
 use denote.Ref.{now}
 use borrow.Author.Needs.{needs}
 use Rattle.layout.specs.Layout.{exitAt}
@@ -25,8 +24,8 @@ returns c =
     let a = number .before .before .before .args in
     let e = number .node-number .ensures .0 in
     let u : uncaughtOf (now (a .f)) (a .t) (a .n) (nodeNumber (now (a .f)) (a .t) (a .n)) ≡ true = ap (uncaughtOf (now (a .f)) (a .t) (a .n)) (sym e) ∙ sym (caught .uncaught .ensures) ∙ method .before .if1 .taken in
-    ask-same (c .ask .ensures) (exit .exit-at .ensures .0 ∙ (λ i. exitAt (a .x) (method .node-method .ensures .0 i) (_+_ 1 (e i))))
-    (eff .effect .ensures ∙ ap (effectAt (now (a .s)) (a .x .types)) (node .node-at .ensures .0))
+    ask-same (c .ask .ensures) (exit .exit-at .ensures ∙ (λ i. exitAt (a .x) (method .node-method .ensures .0 i) (_+_ 1 (e i))))
+    (eff .effect .ensures ∙ ap (effectAt (now (a .s)) (a .x .types)) (node .node-at .ensures))
     ∙ simp u
 
 returns-2 : tie.Need-returns-2
@@ -42,14 +41,14 @@ pub at-throw-spec : {M : Type 1} → statement M
 at-throw-spec =
     tie.close
     (tie.spec
-    (λ c κs. c .before .before .pre .2)
-    (λ c κs. (c .before .before .before .pre .0, c .before .before .before .pre .2, omega (arith, c .node-number .ensures .0, c .before .before .before .pre .3)))
-    (λ c κs. c .before .before .before .before .before .pre .2)
-    (λ c. omega (arith, c .before .before .before .node-number .ensures .1))
-    (λ c κs. (c .before .before .before .before .before .before .pre .1, (omega (arith, c .node-method .ensures .1), omega (arith, c .before .before .before .node-number .ensures .1))))
-    (λ c κs. (c .before .before .before .before .before .before .before .pre .1, c .before .before .before .before .before .before .before .pre .2))
-    (λ c κs. omega (arith, c .node-at .ensures .1))
-    (λ c κs. omega (arith, c .before .before .exit-at .ensures .1))
+    (λ c κs. search needs)
+    (λ c κs. search needs)
+    (λ c κs. search needs)
+    (λ c. search needs)
+    (λ c κs. search needs)
+    (λ c κs. search needs)
+    (λ c κs. search needs)
+    (λ c κs. search needs)
     returns
     (λ c κs. search needs)
     returns-2)

@@ -1,13 +1,12 @@
 use mathlib.Core.Path.{ap, _∙_}
-use native.Mathlib.Omega.{arith}
 use denote.Ref.{now}
 use borrow.Author.Needs.{needs}
 use mathlib.Core.Bool.{_&&_}
 use Rattle.tables.specs.Fields.{nodeCount}
 use Rattle.rounds.specs.Rounds.{roundsOf}
 use Rattle.layout.specs.Layout.{nodeAt, exitAt}
-use Rattle.sheet.specs.Read.{effectAt}
-use Rattle.demand.specs.Demand.{marked, calledIn}
+use Rattle.sheet.specs.Read.{marked, effectAt}
+use Rattle.demand.specs.Demand.{calledIn}
 use Rattle.demand.proofs.of_call.Statement.{statement}
 use Rattle.demand.proofs.of_call.Tie as tie
 
@@ -24,10 +23,10 @@ returns c =
     let method = w .before in
     let node = method .before in
     let a = node .before .before .before .args in
-    let n = node .call-node .ensures .0 in
-    let m = method .call-method .ensures .0 in
-    let p = w .node-at .ensures .0 ∙ ap (nodeAt (a .x)) n in
-    let q = v .exit-at .ensures .0 ∙ ap (λ j. exitAt (a .x) j 0) m in
+    let n = node .call-node .ensures in
+    let m = method .call-method .ensures in
+    let p = w .node-at .ensures ∙ ap (nodeAt (a .x)) n in
+    let q = v .exit-at .ensures ∙ ap (λ j. exitAt (a .x) j 0) m in
     let b = mark .is-marked .ensures ∙ ap (marked (now (a .s))) p in
     let r = back .is-marked2 .ensures ∙ ap (marked (now (a .s))) q in
     let e = call .effect .ensures ∙ ap (effectAt (now (a .s)) (a .x .types)) p in
@@ -40,16 +39,15 @@ pub of-call-spec : {M : Type 1} → statement M
 of-call-spec =
     tie.close
     (tie.spec
-    (λ c κs. c .before .before .pre .1)
-    (λ c κs. c .before .before .before .pre .1)
-    (λ c κs. (c .before .before .before .before .pre .0, c .before .call-node .ensures .1))
-    (λ c κs. (c .before .before .before .before .before .pre .0, (c .before .call-method .ensures .1, omega arith)))
-    (λ c κs. omega (arith, c .before .node-at .ensures .1))
-    (λ c κs. omega (arith, c .before .exit-at .ensures .1))
-    (λ c κs. omega (arith, c .before .before .before .node-at .ensures .1))
-    (λ c κs. omega (arith, c .before .before .before .exit-at .ensures .1))
-    (λ c κs. c .before .before .before .before .before .before .before .call-node .ensures .1)
-    (λ c. omega (arith, c .before .before .before .before .before .before .before .before .call-node .ensures .1))
-    (λ c. omega (arith, c .before .before .before .before .before .before .before .call-method .ensures .1))
+    (λ c κs. search needs)
+    (λ c κs. search needs)
+    (λ c κs. search needs)
+    (λ c κs. search needs)
+    (λ c κs. search needs)
+    (λ c κs. search needs)
+    (λ c κs. search needs)
+    (λ c κs. search needs)
+    (λ c κs. search needs)
+    (λ c. search needs)
     (λ c κs. search needs)
     returns)

@@ -1,5 +1,4 @@
 use mathlib.Core.Path.{ap, _∙_}
-use native.Mathlib.Omega.{arith}
 use denote.Ref.{now}
 use borrow.Author.Needs.{needs}
 use Rattle.effect.specs.Whole.{thenOf}
@@ -13,16 +12,9 @@ unfolding thrownIn
 returns c =
     let eff = c .before in
     let exit = eff .before in
-    let a = exit .before .before .before .before .args in
-    c .then .ensures .0 ∙ ap (thenOf (a .c .rounds .earlier)) (eff .effect .ensures ∙ ap (effectAt (now (a .s)) (a .x .types)) (exit .exit-at .ensures .0))
+    let a = exit .before .before .before .args in
+    c .then .ensures .0 ∙ ap (thenOf (a .c .rounds .earlier)) (eff .effect .ensures ∙ ap (effectAt (now (a .s)) (a .x .types)) (exit .exit-at .ensures))
 
 pub thrown-spec : {M : Type 1} → statement M
 thrown-spec =
-    tie.close
-    (tie.spec
-    (λ c. search needs)
-    (λ c. omega (arith, c .before .before .before .pre .1))
-    (λ c κs. (c .before .before .before .pre .0, (search needs, omega (arith, c .before .before .before .pre .1))))
-    (λ c κs. omega (arith, c .exit-at .ensures .1))
-    (λ c κs. search needs)
-    returns)
+    tie.close (tie.spec (λ c. search needs) (λ c κs. search needs) (λ c κs. search needs) (λ c κs. search needs) returns)

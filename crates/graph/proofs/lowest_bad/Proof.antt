@@ -27,7 +27,7 @@ returns : tie.Need-returns Inv-loop μ-loop
 returns c =
     let l = c .before .before .before in
     let a = l .before .before .before .args in
-    (scan-found (rowBad (now (a .f)) (a .t) (a .table)) (l .before .rows .ensures .0) (l .loop .inv .1) (search needs) (sym (c .before .row-bad .ensures) ∙ c .if1 .taken), search needs)
+    scan-found (rowBad (now (a .f)) (a .t) (a .table)) (l .before .rows .ensures) (l .loop .inv .1) (search needs) (sym (c .before .row-bad .ensures) ∙ c .if1 .taken)
 
 add-k : tie.Need-add-k Inv-loop μ-loop
 add-k c = search needs
@@ -42,7 +42,7 @@ returns-2 : tie.Need-returns-2 Inv-loop μ-loop
 returns-2 c =
     let l = c .before in
     let a = l .before .before .before .args in
-    (scan-none (rowBad (now (a .f)) (a .t) (a .table)) (l .before .rows .ensures .0) (l .loop .inv .1) (search needs), search needs)
+    scan-none (rowBad (now (a .f)) (a .t) (a .table)) (l .before .rows .ensures) (l .loop .inv .1) (search needs)
 
 pub lowest-bad-spec : {M : Type 1} → statement M
 lowest-bad-spec =

@@ -2,9 +2,6 @@ use borrow.Author.Needs.{needs}
 use Rattle.graph.proofs.row_bad.Statement.{statement}
 use Rattle.graph.proofs.row_bad.Tie as tie
 
-count-bad-requires : tie.Need-count-bad-requires
-count-bad-requires c κs = rw (c .enum-told .given .1) at (c .before .before .before .pre .1)
-
 returns : tie.Need-returns
 returns c = rw (c .before .enum-told .given .1) (c .count-bad .ensures)
 
@@ -31,7 +28,7 @@ row-bad-spec =
     tie.close
     (tie.spec
     (λ c. search needs)
-    count-bad-requires
+    (λ c κs. search needs)
     (λ c. search needs)
     (λ c κs. search needs)
     (λ c. search needs)

@@ -7,11 +7,11 @@ use Rattle.graph.proofs.shape.Tie as tie
 
 returns : tie.Need-returns
 unfolding shapeFor
-returns c = let then = c .before .before .before in simp (eq-eqb _ _ (sym (then .before .number .ensures) ∙ then .if1 .taken))
+returns c = simp (eq-eqb _ _ (sym (c .before .number .ensures) ∙ c .if1 .taken))
 
 returns-2 : tie.Need-returns-2
 unfolding shapeFor
 returns-2 c = simp (ne-eqb _ _ (λ e. c .if1 .left (c .before .number .ensures ∙ e)))
 
 pub shape-spec : {M : Type 1} → statement M
-shape-spec = tie.close (tie.spec (λ c κs. search needs) (λ c. search needs) (λ c. search needs) (λ c. search needs) returns returns-2)
+shape-spec = tie.close (tie.spec (λ c κs. search needs) returns returns-2)

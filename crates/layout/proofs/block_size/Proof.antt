@@ -13,4 +13,13 @@ returns-2 c = let l = c .before .before in (sym (effect-size _ _ (sym (l .is-sto
 pub block-size-spec : {M : Type 1} → statement M
 block-size-spec =
     tie.close
-    (tie.spec (λ c κs. search needs) (λ c. search needs) (λ c. search needs) returns (λ c. search needs) (λ c. search needs) returns-2)
+    (tie.spec
+    (λ c κs. search needs)
+    (λ c. search needs)
+    (λ c. search needs)
+    (λ c. search needs)
+    returns
+    (λ c. search needs)
+    (λ c. search needs)
+    (λ c. search needs)
+    returns-2)

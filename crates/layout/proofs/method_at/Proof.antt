@@ -1,17 +1,17 @@
 use mathlib.Core.Path.{refl}
 use native.Mathlib.Omega.{arith}
 use Rattle.layout.specs.Layout.{methodAt}
-use Rattle.layout.proofs.Bounds.{method-lt}
+use Rattle.layout.proofs.Bounds.{methods-lt}
 use borrow.Author.Needs.{needs}
 use Rattle.layout.proofs.method_at.Statement.{statement}
 use Rattle.layout.proofs.method_at.Tie as tie
 
 mul-result-2 : tie.Need-mul-result-2
-mul-result-2 c = omega (arith, method-lt (c .before .pre .0) (c .before .pre .1))
+mul-result-2 c = let a = c .before .args in omega (arith, methods-lt (a .x) (search needs) (a .m) (search needs))
 
 returns : tie.Need-returns
 unfolding methodAt
-returns c = (refl, method-lt (c .before .pre .0) (c .before .pre .1))
+returns c = refl
 
 pub method-at-spec : {M : Type 1} → statement M
-method-at-spec = tie.close (tie.spec (λ c. search needs) (λ c. search needs) mul-result-2 returns)
+method-at-spec = tie.close (tie.spec (λ c. search needs) (λ c. search needs) (λ c. search needs) mul-result-2 returns)

@@ -1,20 +1,30 @@
 use native.Mathlib.Omega.{arith}
 use Rattle.layout.specs.Layout.{nodeAt}
-use Rattle.layout.proofs.Bounds.{effects-le}
+use Rattle.layout.proofs.Bounds.{method-lt, effects-lt}
 use borrow.Author.Needs.{needs}
 use Rattle.layout.proofs.node_at.Statement.{statement}
 use Rattle.layout.proofs.node_at.Tie as tie
 
 mul-result-2 : tie.Need-mul-result-2
-mul-result-2 c = omega (arith, effects-le (c .before .before .pre .0) (c .before .before .args .n) 65535 (omega arith))
+mul-result-2 c = let a = c .before .before .args in omega (arith, effects-lt (a .x) (search needs) (a .n) (search needs))
 
 add-result-2 : tie.Need-add-result-2
-add-result-2 c = omega (arith, effects-le (c .before .before .pre .0) (c .before .before .args .n) 65535 (omega arith))
+add-result-2 c =
+    let a = c .before .before .args in
+    omega (arith, method-lt (a .x) (search needs) (a .x .methods) (search needs), effects-lt (a .x) (search needs) (a .n) (search needs))
 
 returns : tie.Need-returns
 unfolding nodeAt
-returns c = (search needs, omega (arith, effects-le (c .before .before .pre .0) (c .before .before .args .n) 65535 (omega arith)))
+returns c = rw (c .before .method-at .ensures)
 
 pub node-at-spec : {M : Type 1} → statement M
 node-at-spec =
-    tie.close (tie.spec (λ c κs. search needs) (λ c. search needs) (λ c. search needs) mul-result-2 add-result-2 returns)
+    tie.close
+    (tie.spec
+    (λ c κs. search needs)
+    (λ c. search needs)
+    (λ c. search needs)
+    (λ c. search needs)
+    mul-result-2
+    add-result-2
+    returns)

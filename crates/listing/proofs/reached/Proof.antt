@@ -3,7 +3,7 @@ use mathlib.Core.Bool.{_&&_}
 use denote.Ref.{now}
 use borrow.Author.Needs.{needs}
 use Rattle.layout.specs.Layout.{methodAt}
-use Rattle.demand.specs.Demand.{marked}
+use Rattle.sheet.specs.Read.{marked}
 use Rattle.listing.proofs.reached.Statement.{statement}
 use Rattle.listing.proofs.reached.Tie as tie
 
@@ -14,8 +14,8 @@ returns c =
     let method = at .before in
     let node = method .before in
     let a = node .before .before .before .args in
-    let w = node .node-at .ensures .0 in
-    let v = at .method-at .ensures .0 ∙ ap (methodAt (a .x)) (method .node-method .ensures .0) in
+    let w = node .node-at .ensures in
+    let v = at .method-at .ensures ∙ ap (methodAt (a .x)) (method .node-method .ensures .0) in
     λ i. (one .is-marked .ensures ∙ ap (marked (now (a .s))) w) i && (c .is-marked2 .ensures ∙ ap (marked (now (a .s))) v) i
 
 pub reached-spec : {M : Type 1} → statement M

@@ -15,8 +15,8 @@ returns c =
     let method = at .before in
     let node = method .before in
     let a = node .before .before .before .args in
-    let w = node .node-at .ensures .0 in
-    let v = at .method-at .ensures .0 ∙ ap (methodAt (a .x)) (method .node-method .ensures .0) in
+    let w = node .node-at .ensures in
+    let v = at .method-at .ensures ∙ ap (methodAt (a .x)) (method .node-method .ensures .0) in
     c .apply .ensures
     ∙ (λ i. applyOf ((eff .effect .ensures ∙ ap (effectAt (now (a .s)) (a .x .types)) w) i) ((stock .stock .ensures ∙ ap (stockAt (now (a .s)) (a .x .types)) v) i))
 

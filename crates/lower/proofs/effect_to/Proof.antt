@@ -3,9 +3,8 @@ use mathlib.Core.Bool.{true, false}
 use denote.Ref.{now}
 use borrow.Author.Needs.{needs}
 use Rattle.effect.specs.Whole.{atMostOf}
-use Rattle.sheet.specs.Read.{effectAt}
-use Rattle.demand.specs.Demand.{marked}
-use Rattle.rules.specs.Tests.{effectUnder}
+use Rattle.sheet.specs.Read.{effectAt, marked}
+use Rattle.sheet.specs.Under.{effectUnder}
 use Rattle.lower.specs.Lower.{effectTo}
 use Rattle.lower.proofs.effect_to.Statement.{statement}
 use Rattle.lower.proofs.effect_to.Tie as tie

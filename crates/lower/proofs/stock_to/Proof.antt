@@ -3,9 +3,8 @@ use mathlib.Core.Bool.{true, false}
 use denote.Ref.{now}
 use borrow.Author.Needs.{needs}
 use Rattle.effect.specs.Whole.{stockAtMostOf}
-use Rattle.sheet.specs.Read.{stockAt}
-use Rattle.demand.specs.Demand.{marked}
-use Rattle.rules.specs.Tests.{stockUnder}
+use Rattle.sheet.specs.Read.{stockAt, marked}
+use Rattle.sheet.specs.Under.{stockUnder}
 use Rattle.lower.specs.Lower.{stockTo}
 use Rattle.lower.proofs.stock_to.Statement.{statement}
 use Rattle.lower.proofs.stock_to.Tie as tie

@@ -1,26 +1,25 @@
-use mathlib.Core.Path.{_∙_}
+use mathlib.Core.List.{[], _∷_}
 use borrow.Author.Needs.{needs}
-use Rattle.effect.specs.Six.{stockOf, among}
 use Rattle.nodes.specs.Nodes.{openingIn}
 use Rattle.nodes.proofs.opening.Statement.{statement}
 use Rattle.nodes.proofs.opening.Tie as tie
 
 returns : tie.Need-returns
 unfolding openingIn
-returns c =
-    c .stock-of .ensures
-    ∙ (λ i. stockOf (among
-    (c .before .before .before .before .before .before .opening-at .ensures i)
-    (c .before .before .before .before .before .opening-at2 .ensures i)
-    (c .before .before .before .before .opening-at3 .ensures i)
-    (c .before .before .before .opening-at4 .ensures i)
-    (c .before .before .opening-at5 .ensures i)
-    (c .before .opening-at6 .ensures i)))
+returns c = λ i. record {
+  rights = c .before .before .before .before .before .before .before .before .before .before .before .rights-of .ensures i ∷ c .before .before .before .before .before .before .before .before .before .before .rights-of2 .ensures i ∷ c .before .before .before .before .before .before .before .before .before .rights-of3 .ensures i ∷ c .before .before .before .before .before .before .before .before .rights-of4 .ensures i ∷ c .before .before .before .before .before .before .before .rights-of5 .ensures i ∷ c .before .before .before .before .before .before .rights-of6 .ensures i ∷ [];
+  counts = c .before .before .before .before .before .count-of .ensures i ∷ c .before .before .before .before .count-of2 .ensures i ∷ c .before .before .before .count-of3 .ensures i ∷ c .before .before .count-of4 .ensures i ∷ c .before .count-of5 .ensures i ∷ c .count-of6 .ensures i ∷ [];
+}
 
 pub opening-spec : {M : Type 1} → statement M
 opening-spec =
     tie.close
     (tie.spec
+    (λ c κs. search needs)
+    (λ c κs. search needs)
+    (λ c κs. search needs)
+    (λ c κs. search needs)
+    (λ c κs. search needs)
     (λ c κs. search needs)
     (λ c κs. search needs)
     (λ c κs. search needs)

@@ -20,7 +20,7 @@ returns-2 c =
     let a = inside .before .before .before .args in
     step-grant (c .grant .result)
     (does-grant (now (a .f)) (a .t) (a .n) (inside .if1 .left) (sym (kind .node-kind .ensures .0) ∙ number .before .if2 .taken))
-    (c .grant .ensures .0) (number .node-number .ensures .0) (rights .node-rights .ensures .0) (count .node-count .ensures .0)
+    (c .grant .ensures .0) (number .node-number .ensures .0) (rights .node-rights .ensures) (count .node-count .ensures .0)
 
 returns-3 : tie.Need-returns-3
 returns-3 c =
@@ -48,7 +48,6 @@ pub step-spec : {M : Type 1} → statement M
 step-spec =
     tie.close
     (tie.spec
-    (λ c. search needs)
     (λ c κs. search needs)
     returns
     (λ c κs. search needs)
@@ -56,10 +55,10 @@ step-spec =
     (λ c κs. search needs)
     (λ c κs. search needs)
     (λ c. search needs)
-    (λ c. search needs)
     (λ c κs. search needs)
     returns-2
     (λ c κs. search needs)
+    (λ c. search needs)
     (λ c κs. search needs)
     returns-3
     (λ c κs. search needs)

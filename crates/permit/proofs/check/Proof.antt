@@ -6,6 +6,8 @@ use Rattle.answer.specs.declared.Answer.the-variants.{Pass}
 use Rattle.answer.specs.Number.{numberOf}
 use Rattle.answer.proofs.Unpack.{zero-pass}
 use Rattle.graph.specs.Judge.{judgeOf, judgeIn}
+use Rattle.graph.proofs.Passed as passing
+use Rattle.graph.proofs.Rises.{rises}
 use Rattle.graph.proofs.Whole.{own-shape}
 use Rattle.permit.specs.Check.{judgedSheet, checkOf}
 use Rattle.permit.proofs.Meaning.{all-ensured}
@@ -20,7 +22,8 @@ of-judged-requires c κs =
     let f = now (judged .before .before .before .args .f) in
     let j = judged .judged .ensures in
     let p : judgeOf f ≡ Pass = zero-pass _ (ap (λ x. numberOf (x .answer)) (sym (j .0)) ∙ sym (number .number .ensures) ∙ test .if1 .taken) in
-    (ap (λ x. judgeIn f (x .tables)) (j .0) ∙ p, j .1 .1)
+    let t = judged .judged .result .tables in
+    (rises f t (passing.judged f t (ap (λ x. judgeIn f (x .tables)) (j .0) ∙ p)), j .1 .1)
 
 returns : tie.Need-returns
 unfolding checkOf

@@ -19,8 +19,8 @@ returns : tie.Need-returns Inv-loop μ-loop
 returns c =
     let test = c .before in
     let l = test .before .before in
-    let a = l .before .before .before .before .args in
-    (scan-found (uncoveredAt (now (a .f)) (a .t) (a .x) (now (a .s))) refl (l .loop .inv .1) (test .before .loop-test .taken) (sym (test .uncovered .ensures) ∙ c .if1 .taken), search needs)
+    let a = l .before .before .before .args in
+    scan-found (uncoveredAt (now (a .f)) (a .t) (a .x) (now (a .s))) refl (l .loop .inv .1) (test .before .loop-test .taken) (sym (test .uncovered .ensures) ∙ c .if1 .taken)
 
 loop-again : tie.Need-loop-again Inv-loop μ-loop
 loop-again c = (search needs, below-more _ _ (c .before .before .before .loop .inv .1) (sym (c .before .uncovered .ensures) ∙ c .if1 .left))
@@ -28,8 +28,8 @@ loop-again c = (search needs, below-more _ _ (c .before .before .before .loop .i
 returns-2 : tie.Need-returns-2 Inv-loop μ-loop
 returns-2 c =
     let l = c .before in
-    let a = l .before .before .before .before .args in
-    (scan-none (uncoveredAt (now (a .f)) (a .t) (a .x) (now (a .s))) refl (l .loop .inv .1) (c .loop-test .left), search needs)
+    let a = l .before .before .before .args in
+    scan-none (uncoveredAt (now (a .f)) (a .t) (a .x) (now (a .s))) refl (l .loop .inv .1) (c .loop-test .left)
 
 pub first-uncovered-spec : {M : Type 1} → statement M
 first-uncovered-spec =
@@ -37,9 +37,8 @@ first-uncovered-spec =
     (tie.spec
     Inv-loop
     μ-loop
-    (λ c. search needs)
     (λ c. (search needs, below-none _))
-    (λ c κs. (c .before .before .before .before .before .pre, search needs))
+    (λ c κs. search needs)
     returns
     (λ c. search needs)
     (λ c. search needs)

@@ -3,6 +3,7 @@ use native.Mathlib.Omega.{arith}
 use denote.Ref.{now}
 use Prim.Native.Nat.{_<_, _≤_}
 use lib.ListN.{length}
+use borrow.Author.Needs.{needs}
 use borrow.Author.Tests.{lt-ltb, le-ltb, eq-eqb, ne-eqb}
 use Rattle.answer.specs.declared.Answer.the-variants.{BadBlock}
 use Rattle.layout.specs.Layout.{sheetBytes, blockCount, blockAt}
@@ -21,14 +22,8 @@ returns c =
     let n : length (now (a .s)) ≡ sheetBytes (a .x) → ⊥ = λ e. c .if1 .taken (e ∙ sym (size .sheet-bytes .ensures)) in
     simp (ne-eqb _ _ n)
 
-block-at-requires : tie.Need-block-at-requires
-block-at-requires c κs =
-    let count = c .before in
-    let ill = count .before in
-    (ill .before .before .before .before .before .pre .1, omega (arith, count .block-count .ensures, c .if2 .taken))
-
-cast-t10 : tie.Need-cast-t10
-cast-t10 c =
+cast-t11 : tie.Need-cast-t11
+cast-t11 c =
     let count = c .before .before in
     let ill = count .before in
     let start = ill .before .before .before .before .before in
@@ -61,12 +56,12 @@ pub of-judged-spec : {M : Type 1} → statement M
 of-judged-spec =
     tie.close
     (tie.spec
-    (λ c κs. c .before .before .pre .1)
+    (λ c κs. search needs)
     returns
-    (λ c κs. c .before .before .before .before .pre .1)
-    (λ c κs. c .before .before .before .before .before .pre .1)
-    block-at-requires
-    cast-t10
+    (λ c κs. search needs)
+    (λ c κs. search needs)
+    (λ c κs. search needs)
+    cast-t11
     returns-2
-    (λ c κs. c .before .before .before .before .before .before .before .pre)
+    (λ c κs. c .before .before .before .before .before .before .before .pre .0)
     returns-3)

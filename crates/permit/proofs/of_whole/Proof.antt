@@ -2,6 +2,7 @@ use Prim.Native.Nat.{_<_, _≤_}
 use mathlib.Core.Path.{ap, _∙_}
 use native.Mathlib.Omega.{arith}
 use denote.Ref.{now}
+use borrow.Author.Needs.{needs}
 use borrow.Author.Tests.{lt-ltb, le-ltb}
 use Rattle.answer.specs.declared.Answer.the-variants.{Broken}
 use Rattle.rules.specs.Broken.{brokenOf}
@@ -32,5 +33,5 @@ of-whole-spec =
     (λ c κs. c .before .before .pre)
     (λ c. omega (arith, c .if1 .taken))
     returns
-    (λ c κs. c .before .before .before .before .pre .1)
+    (λ c κs. search needs)
     returns-2)

@@ -31,7 +31,7 @@ returns-2 c =
     let a = kind .before .before .before .args in
     let k : nodeKind (now (a .f)) (a .t) (a .n) ≡ drawKind = sym (kind .node-kind .ensures .0) ∙ reached .before .if1 .left in
     let r : isReached (now (a .f)) (a .t) (a .x) (now (a .s)) (a .n) ≡ true = sym (reached .reached .ensures) ∙ stock .before .if2 .taken in
-    ap not (c .covers .ensures .0 ∙ (λ i. coversOf (stock .stock .ensures i) (number .node-number .ensures .0 i) (rights .node-rights .ensures .0 i))) ∙ simp (eq-eqb _ _ k, r)
+    ap not (c .covers .ensures .0 ∙ (λ i. coversOf (stock .stock .ensures i) (number .node-number .ensures .0 i) (rights .node-rights .ensures i))) ∙ simp (eq-eqb _ _ k, r)
 
 returns-3 : tie.Need-returns-3
 unfolding uncoveredAt

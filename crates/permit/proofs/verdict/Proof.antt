@@ -1,6 +1,5 @@
 use Prim.Native.Nat.{_<_, _≤_}
 use mathlib.Core.Path.{ap, _∙_}
-use native.Mathlib.Omega.{arith}
 use denote.Ref.{now}
 use borrow.Author.Needs.{needs}
 use borrow.Author.Tests.{lt-ltb, le-ltb}
@@ -12,26 +11,23 @@ use Rattle.permit.proofs.verdict.Tie as tie
 
 returns : tie.Need-returns
 returns c =
-    let test = c .before in
-    let first = test .before .before in
+    let first = c .before .before .before in
     let a = first .before .before .before .args in
-    let k : lowest (uncoveredAt (now (a .f)) (a .t) (a .x) (now (a .s))) (a .t .nodes) < a .t .nodes = rw (← first .first-uncovered .ensures .0) (test .if1 .taken) in
-    c .overdrawn-at .ensures ∙ ap (overdrawnAt (now (a .f)) (a .t)) (first .first-uncovered .ensures .0) ∙ simp (lt-ltb _ _ k)
+    let k : lowest (uncoveredAt (now (a .f)) (a .t) (a .x) (now (a .s))) (a .t .nodes) < a .t .nodes = rw (← first .first-uncovered .ensures) (c .before .if1 .taken) in
+    c .overdrawn-at .ensures ∙ ap (overdrawnAt (now (a .f)) (a .t)) (first .first-uncovered .ensures) ∙ simp (lt-ltb _ _ k)
 
 returns-2 : tie.Need-returns-2
 returns-2 c =
     let first = c .before .before in
     let a = first .before .before .before .args in
-    let k : a .t .nodes ≤ lowest (uncoveredAt (now (a .f)) (a .t) (a .x) (now (a .s))) (a .t .nodes) = rw (← first .first-uncovered .ensures .0) (c .if1 .left) in
+    let k : a .t .nodes ≤ lowest (uncoveredAt (now (a .f)) (a .t) (a .x) (now (a .s))) (a .t .nodes) = rw (← first .first-uncovered .ensures) (c .if1 .left) in
     simp (le-ltb _ _ k)
 
 pub verdict-spec : {M : Type 1} → statement M
 verdict-spec =
     tie.close
     (tie.spec
-    (λ c κs. c .before .before .pre)
-    (λ c. search needs)
-    (λ c. omega (arith, c .before .before .first-uncovered .ensures .1))
+    (λ c κs. search needs)
     (λ c κs. search needs)
     returns
     returns-2)

@@ -10,8 +10,8 @@ returns c =
       c .before .before .before .before .before .node-kind .ensures .0,
       c .before .before .before .before .node-number .ensures .0,
       c .before .before .before .node-number2 .ensures .0,
-      c .before .before .node-rights .ensures .0,
-      c .before .node-rights2 .ensures .0,
+      c .before .before .node-rights .ensures,
+      c .before .node-rights2 .ensures,
       c .node-count .ensures .0,
     )
 

@@ -6,16 +6,16 @@ returns : tie.Need-returns
 returns c = rw (c .before .enum-told .given .1) (c .flow-convicts .ensures)
 
 returns-2 : tie.Need-returns-2
-returns-2 c = rw (c .before .before .enum-told2 .given .1) (simp (c .is-draw .ensures, c .before .entry .ensures .0))
+returns-2 c = rw (c .before .before .enum-told2 .given .1) (simp (c .is-draw .ensures, c .before .entry .ensures))
 
 returns-3 : tie.Need-returns-3
-returns-3 c = rw (c .before .before .enum-told3 .given .1) (simp (c .is-draw2 .ensures, c .before .catch-to .ensures .0))
+returns-3 c = rw (c .before .before .enum-told3 .given .1) (simp (c .is-draw2 .ensures, c .before .catch-to .ensures))
 
 returns-4 : tie.Need-returns-4
 returns-4 c = rw (c .before .enum-told4 .given .1) (c .grant-convicts .ensures)
 
 returns-5 : tie.Need-returns-5
-returns-5 c = rw (c .before .enum-told5 .given .1) (simp (c .call-method .ensures .0))
+returns-5 c = rw (c .before .enum-told5 .given .1) (simp (c .call-method .ensures))
 
 pub convicts-spec : {M : Type 1} → statement M
 convicts-spec =

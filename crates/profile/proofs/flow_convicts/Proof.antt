@@ -7,8 +7,8 @@ returns c =
     simp (
       c .before .is-draw .ensures,
       c .asks .ensures,
-      c .before .before .before .flow-from .ensures .0,
-      c .before .before .flow-to .ensures .0,
+      c .before .before .before .flow-from .ensures,
+      c .before .before .flow-to .ensures,
     )
 
 pub flow-convicts-spec : {M : Type 1} → statement M

@@ -4,6 +4,7 @@ use mathlib.Core.Path.{_≡_, refl, ap, _∙_}
 use native.Mathlib.Omega.{arith}
 use denote.Ref.{now}
 use borrow.Author.Needs.{needs}
+use Rattle.words.specs.Turn.{inTurn}
 use Rattle.words.specs.Least.{leastOf}
 use Rattle.words.proofs.Least.{least-more}
 use Rattle.profile.specs.Looks.{convicted, lowestOf}
@@ -17,7 +18,7 @@ abbrev μ-loop : tie.MeasureT-loop
 μ-loop f t look n least₀ k₀ least k = n - k
 
 loop-holds : tie.Need-loop-holds Inv-loop μ-loop
-unfolding leastOf
+unfolding inTurn
 loop-holds c = (omega arith, refl)
 
 loop-again : tie.Need-loop-again Inv-loop μ-loop
@@ -32,7 +33,7 @@ returns c =
     let l = c .before in
     let a = l .before .before .before .before .args in
     let q : l .loop .k ≡ l .before .before .rows .result = omega (arith, l .loop .inv .0) in
-    l .loop .inv .1 ∙ ap (leastOf (a .t .nodes) (convicted (now (a .f)) (a .t) (a .look))) (q ∙ l .before .before .rows .ensures .0)
+    l .loop .inv .1 ∙ ap (leastOf (a .t .nodes) (convicted (now (a .f)) (a .t) (a .look))) (q ∙ l .before .before .rows .ensures)
 
 pub lowest-spec : {M : Type 1} → statement M
 lowest-spec =
@@ -43,7 +44,7 @@ lowest-spec =
     (λ c κs. search needs)
     (λ c. search needs)
     loop-holds
-    (λ c κs. omega (arith, c .before .before .before .rows .ensures .1, c .loop-test .taken))
+    (λ c κs. search needs)
     (λ c κs. search needs)
     (λ c. search needs)
     (λ c. search needs)

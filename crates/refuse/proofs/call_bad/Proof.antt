@@ -7,18 +7,16 @@ returns : tie.Need-returns
 unfolding callBad
 returns c =
     simp (
-      c .before .before .before .call-node .ensures .0,
-      c .before .before .call-method .ensures .0,
-      c .before .node-kind .ensures .0,
-      c .call-not-above .ensures,
+      c .before .before .before .before .before .call-node .ensures,
+      c .before .before .before .before .call-method .ensures,
+      c .before .before .before .node-kind .ensures .0,
+      c .before .before .call-not-above .ensures,
     )
 
 pub call-bad-spec : {M : Type 1} → statement M
 call-bad-spec =
     tie.close
     (tie.spec
-    (λ c. search needs)
-    (λ c. search needs)
     (λ c κs. search needs)
     (λ c κs. search needs)
     (λ c κs. search needs)

@@ -13,11 +13,11 @@ unfolding above notAbove callRow
 returns-2 c =
     simp (
       ne-eqb _ _ (c .before .before .before .before .before .before .if1 .left),
-      c .before .before .before .before .before .call-method .ensures .0,
-      c .before .before .before .before .call-method2 .ensures .0,
+      c .before .before .before .before .before .call-method .ensures,
+      c .before .before .before .before .call-method2 .ensures,
       c .before .before .before .above .ensures,
-      c .before .before .call-node .ensures .0,
-      c .before .call-node2 .ensures .0,
+      c .before .before .call-node .ensures,
+      c .before .call-node2 .ensures,
       c .above2 .ensures,
     )
 

@@ -7,22 +7,21 @@ returns : tie.Need-returns
 unfolding catchBad
 returns c =
     simp (
-      c .before .before .before .before .before .before .before .before .catch-from .ensures .0,
-      c .before .before .before .before .before .before .before .catch-exception .ensures .0,
-      c .before .before .before .before .before .before .catch-to .ensures .0,
-      c .before .before .before .before .before .node-kind .ensures .0,
-      c .before .before .before .before .node-number .ensures .0,
-      c .before .before .before .throws-other .ensures,
-      c .before .before .node-method .ensures .0,
-      c .before .node-method2 .ensures .0,
-      c .catch-not-above .ensures,
+      c .before .before .before .before .before .before .before .before .before .before .catch-from .ensures,
+      c .before .before .before .before .before .before .before .before .before .catch-exception .ensures,
+      c .before .before .before .before .before .before .before .before .catch-to .ensures,
+      c .before .before .before .before .before .before .before .node-kind .ensures .0,
+      c .before .before .before .before .before .before .node-number .ensures .0,
+      c .before .before .before .before .before .throws-other .ensures,
+      c .before .before .before .before .node-method .ensures .0,
+      c .before .before .before .node-method2 .ensures .0,
+      c .before .before .catch-not-above .ensures,
     )
 
 pub catch-bad-spec : {M : Type 1} → statement M
 catch-bad-spec =
     tie.close
     (tie.spec
-    (λ c. search needs)
     (λ c κs. search needs)
     (λ c κs. search needs)
     (λ c κs. search needs)

@@ -13,14 +13,14 @@ unfolding above notAbove catchRow
 returns-2 c =
     simp (
       ne-eqb _ _ (c .before .before .before .before .before .before .before .before .before .if1 .left),
-      c .before .before .before .before .before .before .before .before .catch-to .ensures .0,
-      c .before .before .before .before .before .before .before .catch-to2 .ensures .0,
+      c .before .before .before .before .before .before .before .before .catch-to .ensures,
+      c .before .before .before .before .before .before .before .catch-to2 .ensures,
       c .before .before .before .before .before .before .above .ensures,
-      c .before .before .before .before .before .catch-exception .ensures .0,
-      c .before .before .before .before .catch-exception2 .ensures .0,
+      c .before .before .before .before .before .catch-exception .ensures,
+      c .before .before .before .before .catch-exception2 .ensures,
       c .before .before .before .above2 .ensures,
-      c .before .before .catch-from .ensures .0,
-      c .before .catch-from2 .ensures .0,
+      c .before .before .catch-from .ensures,
+      c .before .catch-from2 .ensures,
       c .above3 .ensures,
     )
 

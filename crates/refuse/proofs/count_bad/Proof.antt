@@ -5,15 +5,7 @@ use Rattle.refuse.proofs.count_bad.Tie as tie
 
 returns : tie.Need-returns
 unfolding countBad
-returns c = simp (c .trailer-word .ensures .0)
+returns c = simp (c .before .before .trailer-word .ensures, c .before .fewest .ensures, c .most .ensures)
 
 pub count-bad-spec : {M : Type 1} → statement M
-count-bad-spec =
-    tie.close
-    (tie.spec
-    (λ c κs. search needs)
-    (λ c. search needs)
-    (λ c. search needs)
-    (λ c. search needs)
-    (λ c. search needs)
-    returns)
+count-bad-spec = tie.close (tie.spec (λ c κs. search needs) (λ c κs. search needs) (λ c κs. search needs) returns)

@@ -5,7 +5,7 @@ use Rattle.refuse.proofs.entry_bad.Tie as tie
 
 returns : tie.Need-returns
 unfolding entryBad
-returns c = simp (c .before .entry .ensures .0, c .node-method .ensures .0)
+returns c = simp (c .before .before .entry .ensures, c .before .node-method .ensures .0)
 
 pub entry-bad-spec : {M : Type 1} → statement M
-entry-bad-spec = tie.close (tie.spec (λ c. search needs) (λ c κs. search needs) (λ c κs. search needs) returns)
+entry-bad-spec = tie.close (tie.spec (λ c κs. search needs) (λ c κs. search needs) returns)

@@ -7,19 +7,18 @@ returns : tie.Need-returns
 unfolding flowBad
 returns c =
     simp (
-      c .before .before .before .before .before .flow-from .ensures .0,
-      c .before .before .before .before .flow-to .ensures .0,
-      c .before .before .before .node-kind .ensures .0,
-      c .before .before .node-method .ensures .0,
-      c .before .node-method2 .ensures .0,
-      c .flow-not-above .ensures,
+      c .before .before .before .before .before .before .before .flow-from .ensures,
+      c .before .before .before .before .before .before .flow-to .ensures,
+      c .before .before .before .before .before .node-kind .ensures .0,
+      c .before .before .before .before .node-method .ensures .0,
+      c .before .before .before .node-method2 .ensures .0,
+      c .before .before .flow-not-above .ensures,
     )
 
 pub flow-bad-spec : {M : Type 1} → statement M
 flow-bad-spec =
     tie.close
     (tie.spec
-    (λ c. search needs)
     (λ c κs. search needs)
     (λ c κs. search needs)
     (λ c κs. search needs)

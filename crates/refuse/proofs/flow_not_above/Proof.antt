@@ -13,11 +13,11 @@ unfolding above notAbove flowRow
 returns-2 c =
     simp (
       ne-eqb _ _ (c .before .before .before .before .before .before .if1 .left),
-      c .before .before .before .before .before .flow-to .ensures .0,
-      c .before .before .before .before .flow-to2 .ensures .0,
+      c .before .before .before .before .before .flow-to .ensures,
+      c .before .before .before .before .flow-to2 .ensures,
       c .before .before .before .above .ensures,
-      c .before .before .flow-from .ensures .0,
-      c .before .flow-from2 .ensures .0,
+      c .before .before .flow-from .ensures,
+      c .before .flow-from2 .ensures,
       c .above2 .ensures,
     )
 

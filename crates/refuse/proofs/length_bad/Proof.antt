@@ -5,7 +5,8 @@ use Rattle.refuse.proofs.length_bad.Tie as tie
 
 returns : tie.Need-returns
 unfolding lengthBad
-returns c = simp (c .trailer-word .ensures .0)
+returns c = simp (c .trailer-word .ensures)
 
 pub length-bad-spec : {M : Type 1} → statement M
-length-bad-spec = tie.close (tie.spec (λ c. search needs) (λ c κs. search needs) (λ c. search needs) returns)
+length-bad-spec =
+    tie.close (tie.spec (λ c. search needs) (λ c κs. search needs) (λ c. search needs) (λ c. search needs) returns)

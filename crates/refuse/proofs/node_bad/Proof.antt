@@ -11,7 +11,7 @@ returns c =
       c .before .before .before .before .before .node-kind .ensures .0,
       c .before .before .before .before .node-number .ensures .0,
       c .before .before .before .node-count .ensures .0,
-      c .before .before .node-rights .ensures .0,
+      c .before .before .node-rights .ensures,
       c .before .out-of-range .ensures,
       c .unused-set .ensures,
     )

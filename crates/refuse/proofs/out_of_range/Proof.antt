@@ -9,4 +9,4 @@ unfolding outOfRange
 returns c = refl
 
 pub out-of-range-spec : {M : Type 1} → statement M
-out-of-range-spec = tie.close (tie.spec (λ c. search needs) (λ c. search needs) returns)
+out-of-range-spec = tie.close (tie.spec returns)

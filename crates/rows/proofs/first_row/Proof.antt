@@ -7,23 +7,26 @@ use borrow.Author.Count.{below-none}
 use borrow.Author.Tests.{le-leb}
 use borrow.Author.Needs.{needs}
 use Rattle.words.proofs.Lowest.{NoneBelow}
-use Rattle.rows.specs.Rows.{keyOf, lengthOf, firstRow}
-use Rattle.rows.proofs.Climb.{climbs}
+use Rattle.tables.specs.Rows.{rowsOf}
+use Rattle.rows.specs.Rows.{keyOf, firstRow}
 use Rattle.rows.proofs.Halve.{AtLeast, less-below, closed}
 use Rattle.rows.proofs.first_row.Statement.{statement}
 use Rattle.rows.proofs.first_row.Tie as tie
 
 abbrev Inv-loop : tie.InvT-loop
-Inv-loop f t s x low₀ high₀ low high = (low ≤ high) × (high ≤ high₀) × NoneBelow (AtLeast (keyOf f t s) x) low × (high < high₀ → AtLeast (keyOf f t s) x high ≡ true)
+Inv-loop f t table x low₀ high₀ low high = (low ≤ high) × (high ≤ high₀) × NoneBelow (AtLeast (keyOf f t table) x) low × (high < high₀ → AtLeast (keyOf f t table) x high ≡ true)
 
 abbrev μ-loop : tie.MeasureT-loop
-μ-loop f t s x low₀ high₀ low high = high - low
+μ-loop f t table x low₀ high₀ low high = high - low
 
-length-requires : tie.Need-length-requires Inv-loop μ-loop
-length-requires c κs = search needs
+rows-requires : tie.Need-rows-requires Inv-loop μ-loop
+rows-requires c κs = search needs
 
 loop-holds : tie.Need-loop-holds Inv-loop μ-loop
 loop-holds c = (search needs, search needs, below-none _, λ l. absurd (lt-irrefl _ l))
+
+sub-middle : tie.Need-sub-middle Inv-loop μ-loop
+sub-middle c = search needs
 
 add-middle : tie.Need-add-middle Inv-loop μ-loop
 add-middle c = search needs
@@ -49,11 +52,11 @@ loop-again-2 : tie.Need-loop-again-2 Inv-loop μ-loop
 loop-again-2 c =
     let l = c .before .before .before .loop .inv in
     let b = c .before .before .before .before .before .before in
-    let n = c .before .before .before .before .length .ensures .0 in
+    let n = c .before .before .before .before .rows .ensures in
     let less = rw (c .before .key .ensures) at (c .if1 .left) in (
       search needs,
       search needs,
-      less-below _ (lengthOf (b .args .t) (b .args .s)) (b .args .x) _ (climbs (now (b .args .f)) (b .args .t) (b .pre) (b .args .s)) (rw (← n) (search needs)) less,
+      less-below _ (rowsOf (b .args .t) (b .args .table)) (b .args .x) _ (b .pre (b .args .table)) (rw (← n) (search needs)) less,
       l .3,
     )
 
@@ -62,11 +65,8 @@ unfolding firstRow
 returns c =
     let l = c .before .loop .inv in
     let a = c .before .before .before .before .args in
-    let n = c .before .before .length .ensures .0 in (
-      closed (AtLeast (keyOf (now (a .f)) (a .t) (a .s)) (a .x)) n (l .0) (search needs) (l .1) (l .2) (l .3),
-      search needs,
-      search needs,
-    )
+    let n = c .before .before .rows .ensures in
+    closed (AtLeast (keyOf (now (a .f)) (a .t) (a .table)) (a .x)) n (l .0) (search needs) (l .1) (l .2) (l .3)
 
 pub first-row-spec : {M : Type 1} → statement M
 first-row-spec =
@@ -74,8 +74,9 @@ first-row-spec =
     (tie.spec
     Inv-loop
     μ-loop
-    length-requires
+    rows-requires
     loop-holds
+    sub-middle
     add-middle
     key-requires
     loop-less

@@ -1,20 +1,20 @@
-use mathlib.Core.Path.{_≡_, _∙_}
+use mathlib.Core.Path.{_≡_, ap, _∙_}
 use mathlib.Core.Bool.{true, false}
+use denote.Ref.{now}
 use borrow.Author.Needs.{needs}
-use Prim.Native.Nat.{_-_}
-use Rattle.rules.specs.Tests.{afterCall}
-use Rattle.rules.proofs.Rows.{stretch-same}
+use Rattle.tables.specs.declared.Table.the-variants.{Flow}
+use Rattle.rows.specs.Rows.{allIn}
+use Rattle.rules.specs.Tests.{targetUnder, afterCall}
 use Rattle.rules.proofs.after_call.Statement.{statement}
 use Rattle.rules.proofs.after_call.Tie as tie
 
 returns : tie.Need-returns
 unfolding afterCall
 returns c =
-    let b = c .before .before in
-    let a = b .before in
-    let y = a .before .before .before .before .before .args in
-    let r : y .c .returns ≡ true = a .before .before .if1 .taken in
-    c .rows-under .ensures ∙ stretch-same _ (a .first-row .ensures .0) (b .first-row2 .ensures .0) ∙ simp r
+    let rows = c .before in
+    let a = rows .before .before .before .before .before .args in
+    let r : a .c .returns ≡ true = rows .before .before .if1 .taken in
+    c .rows-under .ensures ∙ ap (allIn (targetUnder (now (a .f)) (a .t) (a .x) (now (a .s)) Flow (a .c .rounds .whole))) (rows .flow-of .ensures) ∙ simp r
 
 returns-2 : tie.Need-returns-2
 unfolding afterCall
@@ -23,13 +23,4 @@ returns-2 c =
     simp r
 
 pub after-call-spec : {M : Type 1} → statement M
-after-call-spec =
-    tie.close
-    (tie.spec
-    (λ c. search needs)
-    (λ c κs. c .before .before .before .before .pre .0)
-    (λ c. search needs)
-    (λ c κs. c .before .before .before .before .before .pre .0)
-    (λ c κs. (c .before .before .before .before .before .before .before .pre .1, c .before .first-row2 .ensures .2))
-    returns
-    returns-2)
+after-call-spec = tie.close (tie.spec (λ c κs. search needs) (λ c κs. search needs) returns returns-2)

@@ -5,8 +5,9 @@ use native.Mathlib.Omega.{arith}
 use denote.Ref.{now}
 use borrow.Author.Needs.{needs}
 use Rattle.words.specs.Least.{leastOf}
-use Rattle.words.proofs.Least.{least-more}
+use Rattle.words.specs.Turn.{inTurn}
 use Rattle.rules.specs.Broken.{thrownBroken}
+use Rattle.words.proofs.Least.{least-more}
 use Rattle.rules.proofs.all_thrown.Statement.{statement}
 use Rattle.rules.proofs.all_thrown.Tie as tie
 
@@ -17,7 +18,7 @@ abbrev μ-loop : tie.MeasureT-loop
 μ-loop f t x s c least₀ e₀ least e = 8 - e
 
 loop-holds : tie.Need-loop-holds Inv-loop μ-loop
-unfolding leastOf
+unfolding inTurn
 loop-holds c = (omega arith, refl)
 
 loop-again : tie.Need-loop-again Inv-loop μ-loop
@@ -40,7 +41,7 @@ all-thrown-spec =
     Inv-loop
     μ-loop
     loop-holds
-    (λ c κs. (c .before .before .before .before .pre .0, c .before .before .before .before .pre .1, c .loop-test .taken))
+    (λ c κs. search needs)
     (λ c κs. search needs)
     (λ c. search needs)
     (λ c. search needs)

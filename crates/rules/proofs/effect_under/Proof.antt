@@ -3,8 +3,8 @@ use mathlib.Core.Bool.{true, false}
 use denote.Ref.{now}
 use borrow.Author.Needs.{needs}
 use Rattle.effect.specs.Whole.{atMostOf}
-use Rattle.demand.specs.Demand.{marked}
-use Rattle.rules.specs.Tests.{effectUnder}
+use Rattle.sheet.specs.Read.{marked}
+use Rattle.sheet.specs.Under.{effectUnder}
 use Rattle.rules.proofs.effect_under.Statement.{statement}
 use Rattle.rules.proofs.effect_under.Tie as tie
 
@@ -26,10 +26,4 @@ returns-2 c =
 
 pub effect-under-spec : {M : Type 1} → statement M
 effect-under-spec =
-    tie.close
-    (tie.spec
-    (λ c κs. c .before .pre)
-    (λ c κs. c .before .before .before .pre)
-    (λ c κs. search needs)
-    returns
-    returns-2)
+    tie.close (tie.spec (λ c κs. search needs) (λ c κs. search needs) (λ c κs. search needs) returns returns-2)

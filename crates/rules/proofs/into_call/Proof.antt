@@ -1,14 +1,13 @@
 use mathlib.Core.Path.{_≡_, sym, ap, _∙_}
 use mathlib.Core.Bool.{true, false}
-use native.Mathlib.Omega.{arith}
 use denote.Ref.{now}
 use borrow.Author.Needs.{needs}
 use Rattle.effect.specs.Whole.{applyOf}
 use Rattle.layout.specs.Layout.{methodAt}
 use Rattle.tables.specs.Fields.{nodeMethod}
-use Rattle.sheet.specs.Read.{stockAt}
-use Rattle.demand.specs.Demand.{marked}
-use Rattle.rules.specs.Tests.{stockUnder, intoCall}
+use Rattle.sheet.specs.Read.{stockAt, marked}
+use Rattle.sheet.specs.Under.{stockUnder}
+use Rattle.rules.specs.Tests.{intoCall}
 use Rattle.rules.proofs.into_call.Statement.{statement}
 use Rattle.rules.proofs.into_call.Tie as tie
 
@@ -16,16 +15,16 @@ returns : tie.Need-returns
 unfolding intoCall
 returns c =
     let to = c .before in
-    let apply = to .before .before in
+    let apply = to .before in
     let stock = apply .before in
     let mark = stock .before .before .before in
     let at = mark .before in
     let method = at .before in
-    let a = method .before .before .before .before .args in
-    let w = at .method-at .ensures .0 ∙ ap (methodAt (a .x)) (method .node-method .ensures .0) in
+    let a = method .before .before .before .args in
+    let w = at .method-at .ensures ∙ ap (methodAt (a .x)) (method .node-method .ensures .0) in
     let m : marked (now (a .s)) (methodAt (a .x) (nodeMethod (now (a .f)) (a .t) (a .c .node))) ≡ true = ap (marked (now (a .s))) (sym w) ∙ sym (mark .is-marked .ensures) ∙ stock .before .before .if1 .taken in
     c .stock-under .ensures
-    ∙ (λ i. stockUnder (now (a .s)) (a .x) (to .method-at2 .ensures .0 i)
+    ∙ (λ i. stockUnder (now (a .s)) (a .x) (to .method-at2 .ensures i)
     ((apply .apply .ensures ∙ ap (applyOf (a .c .rounds .earlier)) (stock .stock .ensures ∙ ap (stockAt (now (a .s)) (a .x .types)) w)) i))
     ∙ simp m
 
@@ -35,8 +34,8 @@ returns-2 c =
     let mark = c .before in
     let at = mark .before in
     let method = at .before in
-    let a = method .before .before .before .before .args in
-    let w = at .method-at .ensures .0 ∙ ap (methodAt (a .x)) (method .node-method .ensures .0) in
+    let a = method .before .before .before .args in
+    let w = at .method-at .ensures ∙ ap (methodAt (a .x)) (method .node-method .ensures .0) in
     let m : marked (now (a .s)) (methodAt (a .x) (nodeMethod (now (a .f)) (a .t) (a .c .node))) ≡ false = ap (marked (now (a .s))) (sym w) ∙ sym (mark .is-marked .ensures) ∙ c .if1 .left in
     simp m
 
@@ -44,14 +43,12 @@ pub into-call-spec : {M : Type 1} → statement M
 into-call-spec =
     tie.close
     (tie.spec
-    (λ c. search needs)
     (λ c κs. search needs)
-    (λ c κs. (c .before .before .before .before .pre, omega (arith, c .node-method .ensures .1)))
-    (λ c κs. omega (arith, c .method-at .ensures .1))
-    (λ c κs. omega (arith, c .before .before .before .method-at .ensures .1))
     (λ c κs. search needs)
-    (λ c. search needs)
-    (λ c κs. (c .before .before .before .before .before .before .before .before .before .before .before .pre, search needs))
-    (λ c κs. omega (arith, c .method-at2 .ensures .1))
+    (λ c κs. search needs)
+    (λ c κs. search needs)
+    (λ c κs. search needs)
+    (λ c κs. search needs)
+    (λ c κs. search needs)
     returns
     returns-2)

@@ -8,7 +8,7 @@ use Rattle.rules.proofs.meets.Tie as tie
 returns : tie.Need-returns
 unfolding met
 returns c =
-    let d : c .before .before .before .before .args .d .asks ≡ true = c .before .before .if1 .taken in
+    let d : c .before .before .before .args .d .asks ≡ true = c .before .if1 .taken in
     c .effect-under .ensures ∙ simp d
 
 returns-2 : tie.Need-returns-2
@@ -18,10 +18,4 @@ returns-2 c =
     simp d
 
 pub meets-spec : {M : Type 1} → statement M
-meets-spec =
-    tie.close
-    (tie.spec
-    (λ c. search needs)
-    (λ c κs. search needs)
-    returns
-    returns-2)
+meets-spec = tie.close (tie.spec (λ c κs. search needs) returns returns-2)

@@ -6,6 +6,7 @@ use Rattle.rules.specs.Tests.{afterCall, intoCall}
 use Rattle.rules.specs.Broken.{calledBroken, callBroken}
 use Rattle.rules.proofs.of_call.Statement.{statement}
 use Rattle.rules.proofs.of_call.Tie as tie
+use borrow.Author.Needs.{needs}
 
 returns : tie.Need-returns
 unfolding callBroken calledBroken
@@ -53,11 +54,11 @@ pub of-call-spec : {M : Type 1} → statement M
 of-call-spec =
     tie.close
     (tie.spec
-    (λ c κs. (c .before .before .pre .1, c .before .before .pre .2))
+    (λ c κs. search needs)
     returns
-    (λ c κs. (c .before .before .before .before .before .pre .0, c .before .before .before .before .before .pre .1))
+    (λ c κs. search needs)
     returns-2
-    (λ c κs. c .before .before .before .before .before .before .before .pre .1)
+    (λ c κs. search needs)
     returns-3
-    (λ c κs. (c .before .before .before .before .before .before .before .before .before .pre .0, c .before .before .before .before .before .before .before .before .before .pre .1))
+    (λ c κs. search needs)
     returns-4)

@@ -33,9 +33,9 @@ pub of-node-spec : {M : Type 1} → statement M
 of-node-spec =
     tie.close
     (tie.spec
-    (λ c κs. c .before .before .pre)
     (λ c κs. search needs)
-    (λ c κs. c .before .before .before .before .pre .2)
+    (λ c κs. search needs)
+    (λ c κs. search needs)
     (λ c κs. search needs)
     returns
     (λ c κs. search needs)

@@ -3,8 +3,8 @@ use mathlib.Core.Bool.{true, false}
 use denote.Ref.{now}
 use borrow.Author.Needs.{needs}
 use Rattle.effect.specs.Whole.{stockAtMostOf}
-use Rattle.demand.specs.Demand.{marked}
-use Rattle.rules.specs.Tests.{stockUnder}
+use Rattle.sheet.specs.Read.{marked}
+use Rattle.sheet.specs.Under.{stockUnder}
 use Rattle.rules.proofs.stock_under.Statement.{statement}
 use Rattle.rules.proofs.stock_under.Tie as tie
 
@@ -26,10 +26,4 @@ returns-2 c =
 
 pub stock-under-spec : {M : Type 1} → statement M
 stock-under-spec =
-    tie.close
-    (tie.spec
-    (λ c κs. c .before .pre)
-    (λ c κs. c .before .before .before .pre)
-    (λ c κs. search needs)
-    returns
-    returns-2)
+    tie.close (tie.spec (λ c κs. search needs) (λ c κs. search needs) (λ c κs. search needs) returns returns-2)

@@ -1,11 +1,10 @@
 use mathlib.Core.Path.{_≡_, sym, ap, _∙_}
 use mathlib.Core.Bool.{true, false}
-use native.Mathlib.Omega.{arith}
 use denote.Ref.{now}
 use borrow.Author.Needs.{needs}
 use Prim.Native.Nat.{_+_}
 use Rattle.layout.specs.Layout.{exitAt}
-use Rattle.demand.specs.Demand.{marked}
+use Rattle.sheet.specs.Read.{marked}
 use Rattle.rules.specs.Broken.{leavingBroken, thrownBroken}
 use Rattle.rules.proofs.thrown.Statement.{statement}
 use Rattle.rules.proofs.thrown.Tie as tie
@@ -13,11 +12,11 @@ use Rattle.rules.proofs.thrown.Tie as tie
 returns : tie.Need-returns
 unfolding thrownBroken
 returns c =
-    let thrown = c .before .before in
+    let thrown = c .before in
     let mark = thrown .before .before in
     let exit = mark .before in
-    let a = exit .before .before .before .before .args in
-    let m : marked (now (a .s)) (exitAt (a .x) (a .c .method) (1 + a .e)) ≡ true = ap (marked (now (a .s))) (sym (exit .exit-at .ensures .0)) ∙ sym (mark .is-marked .ensures) ∙ thrown .before .if1 .taken in
+    let a = exit .before .before .before .args in
+    let m : marked (now (a .s)) (exitAt (a .x) (a .c .method) (1 + a .e)) ≡ true = ap (marked (now (a .s))) (sym (exit .exit-at .ensures)) ∙ sym (mark .is-marked .ensures) ∙ thrown .before .if1 .taken in
     c .leaving .ensures ∙ ap (leavingBroken (now (a .f)) (a .t) (a .x) (now (a .s)) (a .c .node) (a .e)) (thrown .thrown .ensures) ∙ simp m
 
 returns-2 : tie.Need-returns-2
@@ -25,8 +24,8 @@ unfolding thrownBroken
 returns-2 c =
     let mark = c .before in
     let exit = mark .before in
-    let a = exit .before .before .before .before .args in
-    let m : marked (now (a .s)) (exitAt (a .x) (a .c .method) (1 + a .e)) ≡ false = ap (marked (now (a .s))) (sym (exit .exit-at .ensures .0)) ∙ sym (mark .is-marked .ensures) ∙ c .if1 .left in
+    let a = exit .before .before .before .args in
+    let m : marked (now (a .s)) (exitAt (a .x) (a .c .method) (1 + a .e)) ≡ false = ap (marked (now (a .s))) (sym (exit .exit-at .ensures)) ∙ sym (mark .is-marked .ensures) ∙ c .if1 .left in
     simp m
 
 pub thrown-spec : {M : Type 1} → statement M
@@ -34,11 +33,9 @@ thrown-spec =
     tie.close
     (tie.spec
     (λ c. search needs)
-    (λ c. omega (arith, c .before .before .before .pre .2))
-    (λ c κs. (c .before .before .before .pre .1, (search needs, omega (arith, c .before .before .before .pre .2))))
-    (λ c κs. omega (arith, c .exit-at .ensures .1))
-    (λ c κs. (c .before .before .before .before .before .before .pre .1, omega (arith, c .before .before .before .before .before .before .pre .2)))
-    (λ c. search needs)
-    (λ c κs. (c .before .before .before .before .before .before .before .before .pre .0, c .before .before .before .before .before .before .before .before .pre .1, search needs, c .before .before .before .before .before .before .before .before .pre .2))
+    (λ c κs. search needs)
+    (λ c κs. search needs)
+    (λ c κs. search needs)
+    (λ c κs. search needs)
     returns
     returns-2)

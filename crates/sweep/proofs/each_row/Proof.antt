@@ -4,17 +4,17 @@ use denote.Ref.{now}
 use borrow.Author.Needs.{needs}
 use Rattle.rules.specs.Tests.{targetUnder}
 use Rattle.sweep.specs.Sweep.{targetTo}
-use Rattle.sweep.proofs.Inside.{still-ready, few-rows}
+use Rattle.sweep.proofs.Inside.{still-ready}
 use Rattle.sweep.proofs.Turn.{Turning, turning-start, turning-more, turning-end}
 use Rattle.sweep.proofs.Steady.{target-steady}
 use Rattle.sweep.proofs.each_row.Statement.{statement}
 use Rattle.sweep.proofs.each_row.Tie as tie
 
 abbrev Inv-loop : tie.InvT-loop
-Inv-loop f t x s₀ table e a b wrote₀ j₀ s wrote j = Turning (targetTo f t x table e) (λ r. targetUnder f t x r table e) s₀ a b j s wrote
+Inv-loop f t x s₀ table e end wrote₀ j₀ s wrote j = Turning (targetTo f t x table e) (λ r. targetUnder f t x r table e) s₀ j₀ end j s wrote
 
 abbrev μ-loop : tie.MeasureT-loop
-μ-loop f t x s₀ table e a b wrote₀ j₀ s wrote j = b - j
+μ-loop f t x s₀ table e end wrote₀ j₀ s wrote j = end - j
 
 loop-again : tie.Need-loop-again Inv-loop μ-loop
 loop-again c =
@@ -35,10 +35,7 @@ each-row-spec =
     let l = c .before .before in
     let p = l .before .before .before .pre in
     (still-ready (p .0) (l .loop .inv .long), omega (arith, p .1, c .before .loop-test .taken)))
-    (λ c.
-    let test = c .before .before .before .before in
-    let p = test .before .before .before .before .pre in
-    omega (arith, few-rows (p .0) (test .before .before .before .before .args .table) _ (p .1), test .loop-test .taken))
+    (λ c. search needs)
     (λ c. search needs)
     loop-again
     (λ c. c .before .loop .inv .long)

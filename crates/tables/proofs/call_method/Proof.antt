@@ -8,5 +8,4 @@ unfolding callMethod
 returns c = search needs
 
 pub call-method-spec : {M : Type 1} → statement M
-call-method-spec =
-    tie.close (tie.spec (λ c. search needs) (λ c. search needs) (λ c. search needs) (λ c. search needs) (λ c κs. search needs) returns)
+call-method-spec = tie.close (tie.spec (λ c κs. search needs) returns)

@@ -1,3 +1,4 @@
+use native.Mathlib.Nat.{add-zero}
 use Rattle.tables.specs.Fields.{callNode}
 use borrow.Author.Needs.{needs}
 use Rattle.tables.proofs.call_node.Statement.{statement}
@@ -5,7 +6,7 @@ use Rattle.tables.proofs.call_node.Tie as tie
 
 returns : tie.Need-returns
 unfolding callNode
-returns c = search needs
+returns c = rw add-zero at (c .word-of .ensures)
 
 pub call-node-spec : {M : Type 1} → statement M
-call-node-spec = tie.close (tie.spec (λ c. search needs) (λ c. search needs) (λ c. search needs) (λ c κs. search needs) returns)
+call-node-spec = tie.close (tie.spec (λ c κs. search needs) returns)

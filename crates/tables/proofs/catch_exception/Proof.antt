@@ -8,5 +8,4 @@ unfolding catchException
 returns c = search needs
 
 pub catch-exception-spec : {M : Type 1} → statement M
-catch-exception-spec =
-    tie.close (tie.spec (λ c. search needs) (λ c. search needs) (λ c. search needs) (λ c. search needs) (λ c κs. search needs) returns)
+catch-exception-spec = tie.close (tie.spec (λ c κs. search needs) returns)

@@ -8,4 +8,4 @@ unfolding catchTo
 returns c = search needs
 
 pub catch-to-spec : {M : Type 1} → statement M
-catch-to-spec = tie.close (tie.spec (λ c. search needs) (λ c. search needs) (λ c. search needs) (λ c. search needs) (λ c κs. search needs) returns)
+catch-to-spec = tie.close (tie.spec (λ c κs. search needs) returns)

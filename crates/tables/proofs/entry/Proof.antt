@@ -1,3 +1,4 @@
+use native.Mathlib.Nat.{add-zero, zero-add}
 use Rattle.tables.specs.Fields.{entryOf}
 use borrow.Author.Needs.{needs}
 use Rattle.tables.proofs.entry.Statement.{statement}
@@ -5,7 +6,7 @@ use Rattle.tables.proofs.entry.Tie as tie
 
 returns : tie.Need-returns
 unfolding entryOf
-returns c = search needs
+returns c = rw (add-zero, zero-add) at (c .word-of .ensures)
 
 pub entry-spec : {M : Type 1} → statement M
-entry-spec = tie.close (tie.spec (λ c. search needs) (λ c κs. search needs) returns)
+entry-spec = tie.close (tie.spec (λ c κs. search needs) returns)

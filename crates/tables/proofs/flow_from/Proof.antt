@@ -1,3 +1,4 @@
+use native.Mathlib.Nat.{add-zero}
 use Rattle.tables.specs.Fields.{flowFrom}
 use borrow.Author.Needs.{needs}
 use Rattle.tables.proofs.flow_from.Statement.{statement}
@@ -5,7 +6,7 @@ use Rattle.tables.proofs.flow_from.Tie as tie
 
 returns : tie.Need-returns
 unfolding flowFrom
-returns c = search needs
+returns c = rw add-zero at (c .word-of .ensures)
 
 pub flow-from-spec : {M : Type 1} → statement M
-flow-from-spec = tie.close (tie.spec (λ c. search needs) (λ c. search needs) (λ c. search needs) (λ c κs. search needs) returns)
+flow-from-spec = tie.close (tie.spec (λ c κs. search needs) returns)

@@ -8,4 +8,4 @@ unfolding flowTo
 returns c = search needs
 
 pub flow-to-spec : {M : Type 1} → statement M
-flow-to-spec = tie.close (tie.spec (λ c. search needs) (λ c. search needs) (λ c. search needs) (λ c. search needs) (λ c κs. search needs) returns)
+flow-to-spec = tie.close (tie.spec (λ c κs. search needs) returns)

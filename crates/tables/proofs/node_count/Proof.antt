@@ -8,4 +8,4 @@ unfolding nodeCount
 returns c = search needs
 
 pub node-count-spec : {M : Type 1} → statement M
-node-count-spec = tie.close (tie.spec (λ c. search needs) (λ c. search needs) (λ c. search needs) (λ c. search needs) (λ c κs. search needs) returns)
+node-count-spec = tie.close (tie.spec (λ c κs. search needs) returns)

@@ -8,4 +8,4 @@ unfolding nodeKind
 returns c = search needs
 
 pub node-kind-spec : {M : Type 1} → statement M
-node-kind-spec = tie.close (tie.spec (λ c. search needs) (λ c. search needs) (λ c. search needs) (λ c. search needs) (λ c κs. search needs) returns)
+node-kind-spec = tie.close (tie.spec (λ c κs. search needs) returns)

@@ -1,3 +1,4 @@
+use native.Mathlib.Nat.{add-zero}
 use Rattle.tables.specs.Fields.{nodeMethod}
 use borrow.Author.Needs.{needs}
 use Rattle.tables.proofs.node_method.Statement.{statement}
@@ -5,7 +6,7 @@ use Rattle.tables.proofs.node_method.Tie as tie
 
 returns : tie.Need-returns
 unfolding nodeMethod
-returns c = search needs
+returns c = (rw add-zero at (c .byte-of .ensures .0), search needs)
 
 pub node-method-spec : {M : Type 1} → statement M
-node-method-spec = tie.close (tie.spec (λ c. search needs) (λ c. search needs) (λ c. search needs) (λ c κs. search needs) returns)
+node-method-spec = tie.close (tie.spec (λ c κs. search needs) returns)

@@ -8,5 +8,4 @@ unfolding nodeNumber
 returns c = search needs
 
 pub node-number-spec : {M : Type 1} → statement M
-node-number-spec =
-    tie.close (tie.spec (λ c. search needs) (λ c. search needs) (λ c. search needs) (λ c. search needs) (λ c κs. search needs) returns)
+node-number-spec = tie.close (tie.spec (λ c κs. search needs) returns)

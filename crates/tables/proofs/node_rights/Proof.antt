@@ -8,5 +8,4 @@ unfolding nodeRights
 returns c = search needs
 
 pub node-rights-spec : {M : Type 1} → statement M
-node-rights-spec =
-    tie.close (tie.spec (λ c. search needs) (λ c. search needs) (λ c. search needs) (λ c. search needs) (λ c κs. search needs) returns)
+node-rights-spec = tie.close (tie.spec (λ c κs. search needs) returns)

@@ -8,5 +8,4 @@ unfolding openingCount
 returns c = search needs
 
 pub opening-count-spec : {M : Type 1} → statement M
-opening-count-spec =
-    tie.close (tie.spec (λ c. search needs) (λ c. search needs) (λ c. search needs) (λ c. search needs) (λ c κs. search needs) returns)
+opening-count-spec = tie.close (tie.spec (λ c κs. search needs) returns)

@@ -1,3 +1,4 @@
+use native.Mathlib.Nat.{add-zero}
 use Rattle.tables.specs.Fields.{openingRights}
 use borrow.Author.Needs.{needs}
 use Rattle.tables.proofs.opening_rights.Statement.{statement}
@@ -5,7 +6,7 @@ use Rattle.tables.proofs.opening_rights.Tie as tie
 
 returns : tie.Need-returns
 unfolding openingRights
-returns c = search needs
+returns c = rw add-zero at (c .word-of .ensures)
 
 pub opening-rights-spec : {M : Type 1} → statement M
-opening-rights-spec = tie.close (tie.spec (λ c. search needs) (λ c. search needs) (λ c. search needs) (λ c κs. search needs) returns)
+opening-rights-spec = tie.close (tie.spec (λ c κs. search needs) returns)

@@ -7,12 +7,12 @@ returns : tie.Need-returns
 unfolding tablesOf
 returns c =
     simp (
-      c .before .before .before .before .before .trailer-word .ensures .0,
-      c .before .before .before .before .trailer-word2 .ensures .0,
-      c .before .before .before .trailer-word3 .ensures .0,
-      c .before .before .trailer-word4 .ensures .0,
-      c .before .trailer-word5 .ensures .0,
-      c .trailer-word6 .ensures .0,
+      c .before .before .before .before .before .trailer-word .ensures,
+      c .before .before .before .before .trailer-word2 .ensures,
+      c .before .before .before .trailer-word3 .ensures,
+      c .before .before .trailer-word4 .ensures,
+      c .before .trailer-word5 .ensures,
+      c .trailer-word6 .ensures,
     )
 
 pub read-spec : {M : Type 1} → statement M
@@ -25,12 +25,6 @@ read-spec =
     (λ c κs. search needs)
     (λ c κs. search needs)
     (λ c κs. search needs)
-    (λ c. search needs)
-    (λ c. search needs)
-    (λ c. search needs)
-    (λ c. search needs)
-    (λ c. search needs)
-    (λ c. search needs)
     (λ c. search needs)
     (λ c. search needs)
     (λ c. search needs)

@@ -1,4 +1,4 @@
-use mathlib.Core.Path.{_≡_, refl, sym, ap, subst, _∙_}
+use mathlib.Core.Path.{_≡_, refl, sym, ap, _∙_}
 use denote.Ref.{now}
 use borrow.Author.Needs.{needs}
 use Rattle.answer.specs.declared.Answer.the-variants.{Pass}
@@ -7,8 +7,7 @@ use Rattle.answer.proofs.Unpack.{zero-pass}
 use Rattle.answer.proofs.Settled.{says}
 use Rattle.graph.specs.Judge.{judgeIn, judgeOf}
 use Rattle.graph.specs.Judgement.{shapeOf}
-use Rattle.graph.proofs.Whole.{own-shape, within}
-use Rattle.layout.specs.Layout.{Within}
+use Rattle.graph.proofs.Whole.{own-shape}
 use Rattle.work.specs.Meaning.{WorksOut, refused}
 use Rattle.work.proofs.of_judged.Statement.{statement}
 use Rattle.work.proofs.of_judged.Tie as tie
@@ -22,7 +21,7 @@ of-passed-requires c κs =
     let p : judgeOf f ≡ Pass = zero-pass _ (ap (λ x. numberOf (x .answer)) (sym (a .pre)) ∙ sym (number .number .ensures) ∙ test .if1 .taken) in
     let t = ap (λ x. x .tables) (a .pre) in
     let x = ap (λ y. y .shape) (a .pre) ∙ own-shape f p in
-    (ap (judgeIn f) t ∙ p, t, subst Within (sym x) (within f p), x ∙ ap shapeOf (sym t))
+    (ap (judgeIn f) t ∙ p, t, x ∙ ap shapeOf (sym t))
 
 returns-2 : tie.Need-returns-2
 returns-2 c =

@@ -28,9 +28,9 @@ pub of-passed-spec : {M : Type 1} → statement M
 of-passed-spec =
     tie.close
     (tie.spec
-    (λ c κs. c .before .before .pre .2)
+    (λ c κs. search needs)
     returns
     settle-requires
-    (λ c κs. c .before .before .before .before .before .before .before .before .before .pre .2)
+    (λ c κs. search needs)
     (λ c. search needs)
     returns-2)

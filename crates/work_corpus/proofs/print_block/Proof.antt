@@ -1,10 +1,10 @@
-use Prim.Native.Nat.{_-_, _<_, _≤_}
+use Prim.Native.Nat.{_-_, _<_}
 use borrow.Author.Needs.{needs}
 use Rattle.work_corpus.proofs.print_block.Statement.{statement}
 use Rattle.work_corpus.proofs.print_block.Tie as tie
 
 abbrev Inv-loop : tie.InvT-loop
-Inv-loop s w size k₀ k = (w < 33554432) × (size ≤ 25)
+Inv-loop s w size k₀ k = (w < 72057594037927936) × (size < 1048576)
 
 abbrev μ-loop : tie.MeasureT-loop
 μ-loop s w size k₀ k = size - k

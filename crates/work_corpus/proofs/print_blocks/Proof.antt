@@ -1,12 +1,10 @@
 use Prim.Native.Nat.{_-_}
-use mathlib.Core.Path.{_≡_}
 use borrow.Author.Needs.{needs}
-use Rattle.layout.specs.Layout.{Within, blockCount}
 use Rattle.work_corpus.proofs.print_blocks.Statement.{statement}
 use Rattle.work_corpus.proofs.print_blocks.Tie as tie
 
 abbrev Inv-loop : tie.InvT-loop
-Inv-loop x s count b₀ b = Within x × (count ≡ blockCount x)
+Inv-loop x s count b₀ b = Unit {0}
 
 abbrev μ-loop : tie.MeasureT-loop
 μ-loop x s count b₀ b = count - b

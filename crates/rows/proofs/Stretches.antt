@@ -1,0 +1,99 @@
+-- The stretch of a key is exactly the rows with that key, where the keys rise.
+use mathlib.Core.Path.{_≡_, refl}
+use mathlib.Core.Bool.{Bool, true, false}
+use mathlib.Core.List.{List}
+use Prim.Native.Nat.{ℕ, _+_, _-_, _<_, _≤_}
+use native.Mathlib.Omega.{arith}
+use lib.Dec.{ltb}
+use borrow.Author.Tests.{ltb-true, ltb-false, leb-true, leb-false}
+use Rattle.words.proofs.Lowest.{Lowest, is-lowest}
+use Rattle.words.proofs.Turn.{all-at, all-true}
+use Rattle.tables.specs.declared.Tables.{Tables}
+use Rattle.tables.specs.declared.Table.{Table}
+use Rattle.tables.specs.declared.Table.the-variants.{Catches}
+use Rattle.tables.specs.Rows.{rowsOf}
+use Rattle.tables.specs.Fields.{catchFrom, catchException}
+use Rattle.rows.specs.declared.Stretch.{Stretch}
+use Rattle.rows.specs.Rows.{keyOf, Rises, firstRow, stretchOf, catchesOf, allIn}
+use Rattle.rows.proofs.Halve.{AtLeast}
+
+-- row k is one of the stretch
+abbrev pub In : Stretch → ℕ → Type 0
+In s k = (s .from ≤ k) × (k < s .to)
+
+module _ (f : List ℕ) (t : Tables) (table : Table) where
+  first-lowest : (x : ℕ) → Lowest (AtLeast (keyOf f t table) x) (rowsOf t table) (firstRow f t table x)
+  unfolding firstRow
+  first-lowest x = is-lowest (AtLeast (keyOf f t table) x) (rowsOf t table)
+
+  -- before the first row keys are less than x
+  before-first : (x k : ℕ) → k < firstRow f t table x → keyOf f t table k < x
+  before-first x k l = leb-false x (keyOf f t table k) (first-lowest x .before k l)
+
+  pub to-within : (x : ℕ) → stretchOf f t table x .to ≤ rowsOf t table
+  unfolding stretchOf
+  to-within x = first-lowest (x + 1) .within
+
+  module _ (h : Rises f t table) where
+    -- from it on they are at least x
+    from-first : (x k : ℕ) → firstRow f t table x ≤ k → k < rowsOf t table → x ≤ keyOf f t table k
+    from-first x k l u =
+        let i = firstRow f t table x in
+        let v : i < rowsOf t table = omega arith in
+        let a : x ≤ keyOf f t table i = leb-true x (keyOf f t table i) (first-lowest x .found v) in
+        let b : keyOf f t table i ≤ keyOf f t table k = h i k l u in
+        omega arith
+
+    pub from-within : (x : ℕ) → stretchOf f t table x .from ≤ stretchOf f t table x .to
+    unfolding stretchOf
+    from-within x = go (ltb (firstRow f t table (x + 1)) (firstRow f t table x)) refl
+      where
+        go : (b : Bool) → ltb (firstRow f t table (x + 1)) (firstRow f t table x) ≡ b → firstRow f t table x ≤ firstRow f t table (x + 1)
+        go true q =
+            let i = firstRow f t table (x + 1) in
+            let l : i < firstRow f t table x = ltb-true i (firstRow f t table x) q in
+            let u = first-lowest x .within in
+            let a : keyOf f t table i < x = before-first x i l in
+            let b : x + 1 ≤ keyOf f t table i = from-first (x + 1) i (omega arith) (omega arith) in
+            absurd (omega arith)
+        go false q = ltb-false (firstRow f t table (x + 1)) (firstRow f t table x) q
+
+    pub in-stretch : (x k : ℕ) → k < rowsOf t table → keyOf f t table k ≡ x → In (stretchOf f t table x) k
+    unfolding stretchOf
+    in-stretch x k u e = (low (ltb k (firstRow f t table x)) refl, high (ltb k (firstRow f t table (x + 1))) refl)
+      where
+        low : (b : Bool) → ltb k (firstRow f t table x) ≡ b → firstRow f t table x ≤ k
+        low true q = let v : keyOf f t table k < x = before-first x k (ltb-true k (firstRow f t table x) q) in omega arith
+        low false q = ltb-false k (firstRow f t table x) q
+
+        high : (b : Bool) → ltb k (firstRow f t table (x + 1)) ≡ b → k < firstRow f t table (x + 1)
+        high true q = ltb-true k (firstRow f t table (x + 1)) q
+        high false q = let v : x + 1 ≤ keyOf f t table k = from-first (x + 1) k (ltb-false k (firstRow f t table (x + 1)) q) u in omega arith
+
+    pub of-stretch : (x k : ℕ) → In (stretchOf f t table x) k → (k < rowsOf t table) × (keyOf f t table k ≡ x)
+    unfolding stretchOf
+    of-stretch x k i =
+        let w = first-lowest (x + 1) .within in
+        let v : k < rowsOf t table = omega arith in
+        let a : x ≤ keyOf f t table k = from-first x k (i .0) v in
+        let b : keyOf f t table k < x + 1 = before-first (x + 1) k (i .1) in
+        (v, omega arith)
+
+-- of the catches, where every exception is at most 7: the rows for e at n
+module _ (f : List ℕ) (t : Tables) (h : Rises f t Catches) (seven : (k : ℕ) → k < t .catches → catchException f t k ≤ 7) (n e : ℕ) (small : e ≤ 7) where
+  pub in-catches : (k : ℕ) → k < t .catches → catchFrom f t k ≡ n → catchException f t k ≡ e → In (catchesOf f t n e) k
+  in-catches k l p q = in-stretch f t Catches h _ k l (omega arith)
+
+  pub of-catches : (k : ℕ) → In (catchesOf f t n e) k → (k < t .catches) × (catchFrom f t k ≡ n) × (catchException f t k ≡ e)
+  of-catches k i =
+      let w = of-stretch f t Catches h _ k i in
+      let b : catchException f t k ≤ 7 = seven k (w .0) in
+      (w .0, omega arith, omega arith)
+
+-- a test of each row of a stretch
+module _ (p : ℕ → Bool) (s : Stretch) where
+  pub all-in : allIn p s ≡ true → (k : ℕ) → In s k → p k ≡ true
+  all-in h k i = all-at p (s .from) (s .to - s .from) h k (i .0) (omega (arith, i .0, i .1))
+
+  pub in-all : ((k : ℕ) → In s k → p k ≡ true) → allIn p s ≡ true
+  in-all h = all-true p (s .from) (s .to - s .from) (λ k l u. h k (l, omega arith))

@@ -1,0 +1,28 @@
+use Prim.Native.Nat.{_+_, _-_, _*_, _/_, _≤_}
+use mathlib.Core.Bool.{false≢true}
+use lib.ListN.{length}
+use lib.Dec.{leb}
+use borrow.Author.Tests.{leb-true}
+use native.Mathlib.Nat.{mul-le-mul}
+use native.Mathlib.Omega.{arith}
+use Rattle.words.proofs.Tests.{and-l, and-r}
+use borrow.Author.Needs.{needs}
+use Rattle.sheet.proofs.lies_in.Statement.{statement}
+use Rattle.sheet.proofs.lies_in.Tie as tie
+
+-- how many words there are at most
+many : (c : tie.Else1) → let a = c .before .args in a .n * a .t ≤ 4 * 65535
+many c = mul-le-mul {n₂ = 4} {m₂ = 65535} (c .before .pre) (search needs)
+
+returns : tie.Need-returns
+returns c = λ h. absurd (false≢true h)
+
+returns-2 : tie.Need-returns-2
+returns-2 c = λ h.
+    let a = c .before .args in
+    let few : a .t ≤ 6 = leb-true _ _ (and-l _ _ h) in
+    let room : 1 + a .n * a .t ≤ length (a .s .now) / 2 - a .w = leb-true _ _ (and-r (leb (a .t) 6) _ h) in
+    (few, omega (arith, c .if1 .left))
+
+pub lies-in-spec : {M : Type 1} → statement M
+lies-in-spec = tie.close (tie.spec returns (λ c. omega (arith, many c)) (λ c. omega (arith, many c)) returns-2)
