@@ -59,14 +59,18 @@ static uint64_t operate(enum operation operation, struct subject *s)
     }
 }
 
-/* Of the operations from the first on. A time for different answers would mean
- * nothing. */
+/* Of the operations from the first to the last. A time for different answers,
+ * or for a refusal, would mean nothing. */
 static void expect_same_answers(struct subject *s, enum operation first_one,
                                 enum operation last, const char *name)
 {
     uint8_t first[MOST_SHEET_BYTES];
     uint64_t answer = operate(first_one, s);
     memcpy(first, s->sheet, s->sheet_len);
+    if (answer != 0 && SNELLAIR_NUMBER(answer) != SNELLAIR_OVERDRAWN) {
+        printf("%s: refused\n", name);
+        exit(1);
+    }
     for (enum operation o = first_one + 1; o <= last; o++)
         if (operate(o, s) != answer
             || memcmp(first, s->sheet, s->sheet_len) != 0) {

@@ -22,6 +22,14 @@ static void start_full(struct draft *d, unsigned methods)
         draft_method(d);
 }
 
+/* The last method has none to call, and a plain node in place of the call. */
+static unsigned add_call(struct draft *d, unsigned m, unsigned methods,
+                         unsigned repeats)
+{
+    return m + 1 < methods ? draft_call(d, m, repeats)
+                           : draft_node(d, m, PLAIN);
+}
+
 static void build_file_a(struct draft *d)
 {
     draft_file_a(d, 2, 2);
@@ -39,7 +47,7 @@ static void add_addon_method(struct draft *d, unsigned m, unsigned methods)
     draft_draw(d, m, type, 0x0101);
     draft_node(d, m, PLAIN);
     draft_throw(d, m, m);
-    unsigned call = draft_call(d, m, 3);
+    unsigned call = add_call(d, m, methods, 3);
     draft_draw(d, m, type, 0x0201);
     draft_node(d, m, RETURN);
     unsigned handler = draft_node(d, m, PLAIN);
@@ -132,15 +140,15 @@ static void build_shuffled_loop(struct draft *d)
     add_ring(d, order);
 }
 
-/* Three calls in each method, each to the next three methods. */
+/* Three calls in each method, each to the next two methods. */
 static void add_calling_method(struct draft *d, unsigned m)
 {
     draft_grant(d, m, m % MOST_TYPES, 255 - m, 0x0F0F);
-    draft_call(d, m, 255);
+    add_call(d, m, MOST_METHODS, 255);
     draft_draw(d, m, m % MOST_TYPES, 0x0101);
-    draft_call(d, m, 255);
+    add_call(d, m, MOST_METHODS, 255);
     draft_node(d, m, PLAIN);
-    draft_call(d, m, 255);
+    add_call(d, m, MOST_METHODS, 255);
     draft_draw(d, m, (m + 1) % MOST_TYPES, 0x0101);
     draft_node(d, m, RETURN);
     for (unsigned place = 0; place + 1 < METHOD_NODES; place++)
@@ -149,7 +157,7 @@ static void add_calling_method(struct draft *d, unsigned m)
     draft_flow(d, node_at(m, 2), node_at(m, 4));
     draft_flow(d, node_at(m, 4), node_at(m, 6));
     for (unsigned place = 1; place <= 5; place += 2)
-        for (unsigned next = m + 1; next <= m + 3 && next < MOST_METHODS; next++)
+        for (unsigned next = m + 1; next <= m + 2 && next < MOST_METHODS; next++)
             draft_callee(d, node_at(m, place), next);
 }
 
@@ -165,7 +173,7 @@ static void add_throwing_method(struct draft *d, unsigned m)
 {
     static const unsigned thrown[3] = {2, 3, 6};
     draft_draw(d, m, m % MOST_TYPES, 0x0101);
-    unsigned call = draft_call(d, m, 2);
+    unsigned call = add_call(d, m, MOST_METHODS, 2);
     draft_throw(d, m, m % EXCEPTIONS);
     draft_throw(d, m, (m + 3) % EXCEPTIONS);
     unsigned first = draft_draw(d, m, 0, 0x0101);
@@ -178,7 +186,7 @@ static void add_throwing_method(struct draft *d, unsigned m)
     draft_flow(d, call, end);
     draft_flow(d, first, end);
     draft_flow(d, second, end);
-    for (unsigned e = m % 2; e < EXCEPTIONS; e += 2) {
+    for (unsigned e = m % 2; e < EXCEPTIONS && m + 1 < MOST_METHODS; e += 2) {
         draft_catch(d, call, e, first);
         draft_catch(d, call, e, second);
     }
@@ -219,23 +227,31 @@ static void build_recursion(struct draft *d)
         add_recursive_method(d, m);
 }
 
+/* The generator also makes graphs with calls to nobody. */
+static void build_limit(struct random *r, struct draft *d)
+{
+    do
+        generate_limit_graph(r, d);
+    while (draft_lost_call(d) < MOST_NODES);
+}
+
 static void build_random(struct draft *d)
 {
     struct random r = random_of(1, 1);
-    generate_limit_graph(&r, d);
+    build_limit(&r, d);
 }
 
 static void build_one_shot(struct draft *d)
 {
     struct random r = random_of(1, 2);
-    generate_limit_graph(&r, d);
+    build_limit(&r, d);
     generate_one_shot(&r, d);
 }
 
 static void build_session(struct draft *d)
 {
     struct random r = random_of(1, 3);
-    generate_limit_graph(&r, d);
+    build_limit(&r, d);
     generate_session(&r, d);
 }
 

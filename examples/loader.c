@@ -30,6 +30,7 @@ static const struct meaning answers[] = {
     [SNELLAIR_BROKEN_RULE] = {"the sheet breaks a rule", "rule"},
     [SNELLAIR_OVERDRAWN] = {"a draw can lack its permit", "node"},
     [SNELLAIR_UNFIT] = {"the add-on asks in another way", "node"},
+    [SNELLAIR_NO_CALL_ROW] = {"a call has no row in the calls", "node"},
 };
 
 static const char suffices[] = "no run of this add-on lacks a permit";

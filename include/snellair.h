@@ -21,7 +21,7 @@ extern "C" {
 /* Works out the permission sheet of a graph. The sheet's length is exactly
  * SNELLAIR_SHEET_BYTES of the graph's counts; any other is answered 10. After
  * the verdicts SNELLAIR_PASS and SNELLAIR_OVERDRAWN all of the sheet is
- * written; after a refusal (1 to 10) it is byte for byte as it was. */
+ * written; after any refusal it is byte for byte as it was. */
 uint64_t snellair_work_out(const uint8_t *graph, size_t graph_len,
                            uint8_t *sheet, size_t sheet_len);
 
@@ -70,7 +70,8 @@ enum snellair_number {
     SNELLAIR_BAD_BLOCK = 11,   /* first word of the lowest ill-formed block */
     SNELLAIR_BROKEN_RULE = 12, /* lowest sheet rule that is broken, 1 to 10 */
     SNELLAIR_OVERDRAWN = 13,   /* lowest reached node not covered */
-    SNELLAIR_UNFIT = 14        /* lowest node that breaks the profile */
+    SNELLAIR_UNFIT = 14,       /* lowest node that breaks the profile */
+    SNELLAIR_NO_CALL_ROW = 17  /* lowest call node that no call row names */
 };
 
 /* The limits: most methods, nodes and types; the longest graph file and the

@@ -25,7 +25,7 @@ struct one_case {
 
 /* What came of each comparison. */
 struct tallies {
-    struct tally wrong_length, work_out, check, one_shot, session, fitting;
+    struct tally wrong_length, work_out, check, one_shot, session, fitting, damaged;
 };
 
 /* Both sides are lent the same bytes. */
@@ -187,6 +187,21 @@ static bool compare_fitting(struct random *r, struct one_case *c,
     return true;
 }
 
+/* The last graph's file, damaged in a few ways. */
+static bool compare_damaged(struct random *r, struct one_case *c,
+                            struct tallies *tallies)
+{
+    for (unsigned i = 0; i < 4; i++) {
+        write_graph(c);
+        damage_graph(r, c);
+        if (!compare_work_out(c, sheet_bytes(draft_shape(&c->draft)),
+                              &tallies->damaged)
+            || !compare_profiles(c, tallies))
+            return false;
+    }
+    return true;
+}
+
 static bool compare_case(struct one_case *c, struct tallies *tallies)
 {
     struct random r = random_of(c->seed, c->number);
@@ -208,7 +223,8 @@ static bool compare_case(struct one_case *c, struct tallies *tallies)
     }
     work_out_for_other_opening(&r, c);
     return compare_check(c, right, &tallies->check)
-        && compare_profiles(c, tallies) && compare_fitting(&r, c, tallies);
+        && compare_profiles(c, tallies) && compare_fitting(&r, c, tallies)
+        && compare_damaged(&r, c, tallies);
 }
 
 int main(int argc, char **argv)
@@ -232,6 +248,7 @@ int main(int argc, char **argv)
     tally_print("check", &tallies.check);
     tally_print("one-shot", &tallies.one_shot);
     tally_print("session", &tallies.session);
+    tally_print("damaged files", &tallies.damaged);
     tally_print("work out where one-shot fits", &tallies.fitting);
     printf("%" PRIu64 " cases, no difference\n", cases);
     if (2 * tally_verdicts(&tallies.work_out) < cases) {

@@ -23,7 +23,7 @@ static void print_file(const char *name, const uint8_t *graph, size_t length)
 {
     static uint8_t sheet[MOST_SHEET_BYTES];
     struct shape s = {0, 0, 0};
-    /* An answer from 1 to 9 stands whatever the sheet's length is. */
+    /* A refusal of the file stands whatever the sheet's length is. */
     uint64_t answer = peer_work_out(graph, length, sheet, 0);
     if (answer == 10) {
         s = shape_of(graph, length);

@@ -111,6 +111,26 @@ void draft_alter(struct draft_rows *rows, unsigned row, unsigned field,
     add_row(rows, altered[0], altered[1], altered[2]);
 }
 
+void draft_take_out(struct draft_rows *rows, unsigned from)
+{
+    unsigned kept = 0;
+    for (unsigned row = 0; row < rows->count; row++)
+        if (rows->row[row][0] != from)
+            memmove(rows->row[kept++], rows->row[row], sizeof rows->row[0]);
+    rows->count = kept;
+}
+
+unsigned draft_lost_call(const struct draft *d)
+{
+    bool has_row[MOST_NODES] = {false};
+    for (unsigned row = 0; row < d->calls.count; row++)
+        has_row[d->calls.row[row][0]] = true;
+    for (unsigned node = 0; node < d->nodes; node++)
+        if (d->node[node].kind == CALL && !has_row[node])
+            return node;
+    return MOST_NODES;
+}
+
 struct shape draft_shape(const struct draft *d)
 {
     return (struct shape){d->methods, d->nodes, d->types};

@@ -51,6 +51,12 @@ bool draft_catch(struct draft *d, unsigned from, unsigned exception,
 void draft_alter(struct draft_rows *rows, unsigned row, unsigned field,
                  unsigned value);
 
+/* Takes out the rows that start with this node. */
+void draft_take_out(struct draft_rows *rows, unsigned from);
+
+/* The lowest call without a call row, MOST_NODES if each has one. */
+unsigned draft_lost_call(const struct draft *d);
+
 struct shape draft_shape(const struct draft *d);
 
 /* Writes the file, at most MOST_GRAPH_BYTES, and answers its length. */

@@ -126,6 +126,16 @@ static void add_node(struct random *r, const struct sizes *most,
     }
 }
 
+/* Any node of this kind, or any node at all if there is none. */
+static unsigned any_of_kind(struct random *r, const struct draft *d,
+                            enum kind kind)
+{
+    unsigned node = random_below(r, d->nodes);
+    for (unsigned i = 0; i < d->nodes && d->node[node].kind != kind; i++)
+        node = (node + 1) % d->nodes;
+    return node;
+}
+
 /* The next node of a method after this one, in a ring. */
 static unsigned next_node(const struct draft *d, unsigned method,
                           unsigned after)
@@ -156,8 +166,7 @@ static unsigned other_method(struct random *r, const struct draft *d,
 static void add_callee_and_catches(struct random *r, struct draft *d,
                                    unsigned node)
 {
-    unsigned callees = one_in(r, 8) ? 0 : 1 + random_below(r, 6) / 3;
-    while (callees-- > 0)
+    for (unsigned callees = 1 + random_below(r, 6) / 3; callees > 0; callees--)
         draft_callee(d, node, other_method(r, d, d->node[node].method));
     for (unsigned catches = random_below(r, 3); catches > 0; catches--)
         draft_catch(d, node, random_exception(r), other_node(r, d, node));
@@ -215,6 +224,15 @@ static void generate_exact(struct random *r, const struct sizes *exact,
     }
 }
 
+/* Of one call or two, in one graph of sixteen. */
+static void lose_call_rows(struct random *r, struct draft *d)
+{
+    if (!one_in(r, 16))
+        return;
+    for (unsigned calls = 1 + random_below(r, 2); calls > 0; calls--)
+        draft_take_out(&d->calls, any_of_kind(r, d, CALL));
+}
+
 void generate_graph(struct random *r, const struct sizes *most,
                     struct draft *d)
 {
@@ -225,18 +243,19 @@ void generate_graph(struct random *r, const struct sizes *most,
     exact.nodes = fewest + random_below(r, most->nodes - fewest + 1);
     exact.types = 1 + random_below(r, most->types);
     generate_exact(r, &exact, d);
+    lose_call_rows(r, d);
 }
 
 void generate_limit_graph(struct random *r, struct draft *d)
 {
     static const struct sizes exact = {MOST_METHODS, MOST_NODES, MOST_TYPES,
                                        255, 255};
+    bool full = one_in(r, 2);
     generate_exact(r, &exact, d);
-    if (one_in(r, 2))
-        return;
-    while (d->flow.count < MOST_FLOW || d->calls.count < MOST_CALLS
-           || d->catches.count < MOST_CATCHES)
+    while (full && (d->flow.count < MOST_FLOW || d->calls.count < MOST_CALLS
+                    || d->catches.count < MOST_CATCHES))
         add_rows(r, d, random_below(r, d->nodes));
+    lose_call_rows(r, d);
 }
 
 /* ---- Profiles ---- */
@@ -317,21 +336,12 @@ void generate_session(struct random *r, struct draft *d)
     }
 }
 
-/* Of any node of this kind, or of any node at all if there is none. */
-static struct draft_node *any_of_kind(struct random *r, struct draft *d,
-                                      enum kind kind)
-{
-    unsigned node = random_below(r, d->nodes);
-    for (unsigned i = 0; i < d->nodes && d->node[node].kind != kind; i++)
-        node = (node + 1) % d->nodes;
-    return &d->node[node];
-}
-
 /* In a grant or a draw: type, rights or count. */
 static void change_use(struct random *r, struct draft *d)
 {
     static const uint8_t counts[6] = {0, 1, 2, 3, 254, 255};
-    struct draft_node *n = any_of_kind(r, d, one_in(r, 3) ? DRAW : GRANT);
+    enum kind kind = one_in(r, 3) ? DRAW : GRANT;
+    struct draft_node *n = &d->node[any_of_kind(r, d, kind)];
     if (n->kind != GRANT && n->kind != DRAW)
         return;
     if (n->kind == GRANT && one_in(r, 2))
@@ -346,7 +356,8 @@ static void change_use(struct random *r, struct draft *d)
 static void change_kind(struct random *r, struct draft *d)
 {
     static const enum kind kinds[3] = {PLAIN, GRANT, DRAW};
-    struct draft_node *n = any_of_kind(r, d, kinds[random_below(r, 3)]);
+    enum kind kind = kinds[random_below(r, 3)];
+    struct draft_node *n = &d->node[any_of_kind(r, d, kind)];
     if (n->kind > DRAW)
         return;
     *n = (struct draft_node){.method = n->method,
@@ -451,11 +462,13 @@ static void damage_field(struct random *r, const struct draft *d,
         write_word(graph + 2 * random_below(r, (unsigned)length / 2), value);
 }
 
-/* Another exception in one catch row, or no repeats in one call. */
+/* Another exception in one catch row, no repeats in one call, or a call made of
+ * a plain node. */
 static void damage_rare_field(struct random *r, const struct draft *d,
                               uint8_t *graph)
 {
     unsigned node = random_below(r, d->nodes);
+    uint8_t *row = graph + 2 * d->methods + row_bytes[NODES] * node;
     uint8_t *catches = graph + 2 * d->methods + row_bytes[NODES] * d->nodes
                      + row_bytes[FLOW] * d->flow.count
                      + row_bytes[CALLS] * d->calls.count;
@@ -464,14 +477,42 @@ static void damage_rare_field(struct random *r, const struct draft *d,
                        + row_bytes[CATCHES] * random_below(r, d->catches.count),
                    random_below(r, EXCEPTIONS + 1));
     else if (d->node[node].kind == CALL)
-        graph[2 * d->methods + row_bytes[NODES] * node + 3] = 0;
+        row[3] = 0;
+    else if (d->node[node].kind == PLAIN)
+        row[1] = CALL, row[3] = 1;
+}
+
+/* One place of the tables. */
+static void damage_tables(struct random *r, const struct draft *d,
+                          uint8_t *graph, size_t length)
+{
+    switch (random_below(r, 8)) {
+    case 0:
+        damage_order(r, d, graph);
+        break;
+    case 1:
+        graph[random_below(r, (unsigned)length)] ^=
+            (uint8_t)(1 << random_below(r, 8));
+        break;
+    case 2: /* the last opening count, just before the trailer */
+        write_word(graph + length - TRAILER_BYTES - 2,
+                   254 + random_below(r, 4));
+        break;
+    case 3:
+    case 4:
+    case 5:
+        damage_rare_field(r, d, graph);
+        break;
+    default:
+        damage_field(r, d, graph, length);
+    }
 }
 
 size_t generate_damage(struct random *r, const struct draft *d, uint8_t *graph,
                        size_t length)
 {
     size_t added = 1 + random_below(r, MOST_ADDED);
-    switch (random_below(r, 10)) {
+    switch (random_below(r, 8)) {
     case 0:
         return random_below(r, (unsigned)length);
     case 1:
@@ -480,27 +521,9 @@ size_t generate_damage(struct random *r, const struct draft *d, uint8_t *graph,
     case 2:
         damage_trailer(r, graph + length - TRAILER_BYTES);
         break;
-    case 3:
-        damage_order(r, d, graph);
-        break;
-    case 4:
-        graph[random_below(r, (unsigned)length)] ^=
-            (uint8_t)(1 << random_below(r, 8));
-        break;
-    case 5: /* two of them, for the order of the answers */
-        damage_field(r, d, graph, length);
-        damage_field(r, d, graph, length);
-        break;
-    case 6: /* the last opening count, just before the trailer */
-        write_word(graph + length - TRAILER_BYTES - 2,
-                   254 + random_below(r, 4));
-        break;
-    case 7:
-    case 8:
-        damage_rare_field(r, d, graph);
-        break;
-    default:
-        damage_field(r, d, graph, length);
+    default: /* up to three places, for the order of the answers */
+        for (unsigned places = 1 + random_below(r, 3); places > 0; places--)
+            damage_tables(r, d, graph, length);
     }
     return length;
 }

@@ -21,11 +21,12 @@ struct sizes {
     unsigned methods, nodes, types, repeats, count;
 };
 
-/* Any well-formed graph within these sizes. */
+/* Any graph within these sizes. It is well formed but for calls without a call
+ * row, which one graph in sixteen has. */
 void generate_graph(struct random *r, const struct sizes *most,
                     struct draft *d);
 
-/* A graph with 64 methods, 512 nodes and 6 types, in half of the cases with
+/* Likewise with 64 methods, 512 nodes and 6 types, in half of the cases with
  * full tables of flow, calls and catches. */
 void generate_limit_graph(struct random *r, struct draft *d);
 

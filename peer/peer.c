@@ -88,7 +88,7 @@ static struct rows catches_of(const struct graph *g, unsigned node,
     return own;
 }
 
-/* ---- Answers 1 to 9 ---- */
+/* ---- Answers 1 to 9 and 17 ---- */
 
 /* Rows are compared field by field, so equal rows are not above. */
 static bool is_above(const struct graph *g, enum table t, unsigned row)
@@ -202,14 +202,13 @@ static uint64_t judge_trailer(struct graph *g, const uint8_t *bytes,
 }
 
 /* Answers 4 to 9, one for each table. */
-static uint64_t judge_tables(const struct graph *g)
+static uint64_t judge_table(const struct graph *g, enum table t)
 {
     static bool (*const bad[TABLES])(const struct graph *, unsigned) = {
         bad_entry, bad_node, bad_flow, bad_call, bad_catch, bad_opening};
-    for (unsigned t = 0; t < TABLES; t++)
-        for (unsigned row = 0; row < g->count[t]; row++)
-            if (bad[t](g, row))
-                return answer(4 + t, row);
+    for (unsigned row = 0; row < g->count[t]; row++)
+        if (bad[t](g, row))
+            return answer(4 + t, row);
     return 0;
 }
 
@@ -225,21 +224,33 @@ static void find_rows(struct graph *g)
     }
 }
 
-/* Answers 1 to 9. The graph is ready for use after 0. */
+/* Answer 17. */
+static uint64_t judge_calls_to_nobody(const struct graph *g)
+{
+    for (unsigned node = 0; node < g->count[NODES]; node++) {
+        struct rows calls = rows_of(g, CALLS, node);
+        if (kind_of(g, node) == CALL && calls.first == calls.end)
+            return answer(17, node);
+    }
+    return 0;
+}
+
+/* Answers 1 to 8, 17 and 9. The graph is ready for use after 0. */
 static uint64_t judge_file(struct graph *g, const uint8_t *bytes, size_t length)
 {
     uint64_t refusal = judge_trailer(g, bytes, length);
-    if (refusal == 0)
-        refusal = judge_tables(g);
+    for (unsigned t = METHODS; t <= CATCHES && refusal == 0; t++)
+        refusal = judge_table(g, t);
     if (refusal != 0)
         return refusal;
     g->shape = (struct shape){g->count[METHODS], g->count[NODES],
                               g->count[OPENING]};
     find_rows(g);
-    return 0;
+    refusal = judge_calls_to_nobody(g);
+    return refusal != 0 ? refusal : judge_table(g, OPENING);
 }
 
-/* Answers 1 to 10. */
+/* The file's answers, then 10. */
 static uint64_t judge(struct graph *g, const uint8_t *bytes, size_t length,
                       size_t sheet_len)
 {
@@ -736,7 +747,7 @@ static void find_unfit_asking(const struct graph *g, bool unfit[MOST_NODES])
             unfit[cell(g, CALLS, row, 0)] = true;
 }
 
-/* Answers 1 to 9, 14 and 0. */
+/* The file's answers, 14 and 0. */
 static uint64_t judge_profile(const uint8_t *graph, size_t graph_len,
                               find_unfit *find)
 {

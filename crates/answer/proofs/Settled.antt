@@ -4,7 +4,7 @@ use mathlib.Core.Path.{_≡_, refl, sym, _∙_}
 use mathlib.Core.Bool.{cond}
 use lib.Dec.{eqb}
 use Rattle.answer.specs.declared.Answer.{Answer}
-use Rattle.answer.specs.declared.Answer.the-variants.{Pass, TooShort, BadCount, BadLength, BadEntry, BadNode, BadFlow, BadCall, BadCatch, BadOpening, BadSheet, BadBlock, Broken, Overdrawn, Unfit}
+use Rattle.answer.specs.declared.Answer.the-variants.{Pass, TooShort, BadCount, BadLength, BadEntry, BadNode, BadFlow, BadCall, BadCatch, BadOpening, BadSheet, BadBlock, Broken, Overdrawn, Unfit, NoCallRow}
 use Rattle.answer.specs.Number.{numberOf, placeOf, Says}
 
 -- the answer that has the number and the place
@@ -24,7 +24,8 @@ answerOf n p =
     (cond (eqb n 11) (BadBlock p)
     (cond (eqb n 12) (Broken p)
     (cond (eqb n 13) (Overdrawn p)
-    (Unfit p))))))))))))))
+    (cond (eqb n 14) (Unfit p)
+    (NoCallRow p)))))))))))))))
 
 pub found : (a : Answer) → answerOf (numberOf a) (placeOf a) ≡ a
 found Pass = refl
@@ -42,6 +43,7 @@ found (BadBlock w) = refl
 found (Broken r) = refl
 found (Overdrawn n) = refl
 found (Unfit n) = refl
+found (NoCallRow n) = refl
 
 pub settled : (a b : Answer) → numberOf a ≡ numberOf b → placeOf a ≡ placeOf b → a ≡ b
 settled a b p q = sym (found a) ∙ (λ i. answerOf (p i) (q i)) ∙ found b

@@ -2,7 +2,7 @@
 use Prim.Native.Nat.{ℕ, _+_, _*_}
 use mathlib.Core.Path.{_≡_}
 use Rattle.answer.specs.declared.Answer.{Answer}
-use Rattle.answer.specs.declared.Answer.the-variants.{Pass, TooShort, BadCount, BadLength, BadEntry, BadNode, BadFlow, BadCall, BadCatch, BadOpening, BadSheet, BadBlock, Broken, Overdrawn, Unfit}
+use Rattle.answer.specs.declared.Answer.the-variants.{Pass, TooShort, BadCount, BadLength, BadEntry, BadNode, BadFlow, BadCall, BadCatch, BadOpening, BadSheet, BadBlock, Broken, Overdrawn, Unfit, NoCallRow}
 
 abbrev pub numberOf : Answer → ℕ
 -- pass
@@ -30,6 +30,8 @@ numberOf (Broken r) = 12
 numberOf (Overdrawn n) = 13
 -- profile not met
 numberOf (Unfit n) = 14
+-- a call without a call row
+numberOf (NoCallRow n) = 17
 
 abbrev pub placeOf : Answer → ℕ
 placeOf Pass = 0
@@ -53,6 +55,8 @@ placeOf (Broken r) = r
 placeOf (Overdrawn n) = n
 -- lowest node that breaks the profile
 placeOf (Unfit n) = n
+-- lowest such node
+placeOf (NoCallRow n) = n
 
 -- the answer has this number and this place
 pub record Says (a : Answer) (number place : ℕ) : Type 0 where

@@ -18,6 +18,7 @@ pub enum Answer {
     Broken(u16),
     Overdrawn(u16),
     Unfit(u16),
+    NoCallRow(u16),
 }
 
 pub fn number(a: Answer) -> u16
@@ -39,6 +40,7 @@ pub fn number(a: Answer) -> u16
         Answer::Broken(_) => 12,
         Answer::Overdrawn(_) => 13,
         Answer::Unfit(_) => 14,
+        Answer::NoCallRow(_) => 17,
     }
 }
 
@@ -61,6 +63,7 @@ pub fn place(a: Answer) -> u32
         Answer::Broken(r) => r as u32,
         Answer::Overdrawn(n) => n as u32,
         Answer::Unfit(n) => n as u32,
+        Answer::NoCallRow(n) => n as u32,
     }
 }
 

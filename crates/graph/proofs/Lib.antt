@@ -4,3 +4,4 @@ pub mod Whole
 pub mod Sorts
 pub mod Rises
 pub mod Caught
+pub mod Stages

@@ -7,27 +7,41 @@ use mathlib.Core.List.{List}
 use native.Mathlib.Decide.{decLt}
 use native.Mathlib.Omega.{arith}
 use lib.ListN.{length}
-use lib.Dec.{ltb}
+use lib.Dec.{ltb, eqb}
 use borrow.Author.Tests.{ltb-true, ltb-false, lt-ltb}
 use Rattle.words.specs.Lowest.{lowest}
 use Rattle.words.proofs.Lowest.{is-lowest, none-found}
 use Rattle.answer.specs.declared.Answer.{Answer}
-use Rattle.answer.specs.declared.Answer.the-variants.{Pass, TooShort, BadCount, BadLength, BadEntry, BadNode, BadFlow, BadCall, BadCatch, BadOpening, BadSheet, BadBlock, Broken, Overdrawn, Unfit}
-use Rattle.answer.specs.Number.{numberOf, placeOf, Says}
-use Rattle.answer.proofs.Settled.{answerOf, found, settled, says-only, says}
+use Rattle.answer.specs.declared.Answer.the-variants.{Pass, TooShort, BadCount, BadLength, BadEntry, BadNode, BadFlow, BadCall, BadCatch, BadOpening, BadSheet, BadBlock, Broken, Overdrawn, Unfit, NoCallRow}
+use Rattle.answer.specs.Number.{placeOf}
+use Rattle.answer.proofs.Settled.{says-only, says}
 use Rattle.tables.specs.declared.Tables.{Tables}
 use Rattle.tables.specs.Trailer.{tablesOf}
-use Rattle.refuse.specs.Bad.{countBad, lengthBad, entryBad, nodeBad, flowBad, callBad, catchBad, openingBad}
-use Rattle.graph.specs.Places.{badNodeAt}
+use Rattle.refuse.specs.Bad.{countBad, lengthBad, entryBad, nodeBad, flowBad, callBad, catchBad, uncalled, openingBad}
+use Rattle.graph.specs.Places.{badNodeAt, noCallRowAt}
 use Rattle.graph.specs.Judge.{refused, judgeRows, judgeIn, judgeOf}
-use Rattle.graph.specs.Meaning.{Given, Before, Judges, refuses, passes}
+use Rattle.graph.specs.Meaning.{Given, turnOf, Before, Judges, refuses, passes}
+
+-- the refusal of the file that has the turn and the place
+abbrev inTurn : ℕ → ℕ → Answer
+inTurn c p =
+    cond (eqb c 1) TooShort
+    (cond (eqb c 2) (BadCount p)
+    (cond (eqb c 3) BadLength
+    (cond (eqb c 4) (BadEntry p)
+    (cond (eqb c 5) (BadNode p)
+    (cond (eqb c 6) (BadFlow p)
+    (cond (eqb c 7) (BadCall p)
+    (cond (eqb c 8) (BadCatch p)
+    (cond (eqb c 9) (NoCallRow p)
+    (BadOpening p)))))))))
 
 module _ (f : List ℕ) where
   abbrev t : Tables
   t = tablesOf f
 
-  -- only the numbers 1 to 9 are about the file
-  about-file : (b : Answer) → Given f t b → (0 < numberOf b) × (numberOf b < 10)
+  -- what is refused about the file has its turn among ten
+  about-file : (b : Answer) → Given f t b → (0 < turnOf b) × (turnOf b < 11)
   about-file Pass g = absurd g
   about-file TooShort g = (omega arith, omega arith)
   about-file (BadCount i) g = (omega arith, omega arith)
@@ -38,38 +52,65 @@ module _ (f : List ℕ) where
   about-file (BadCall k) g = (omega arith, omega arith)
   about-file (BadCatch k) g = (omega arith, omega arith)
   about-file (BadOpening k) g = (omega arith, omega arith)
+  about-file (NoCallRow n) g = (omega arith, omega arith)
   about-file BadSheet g = absurd g
   about-file (BadBlock w) g = absurd g
   about-file (Broken r) g = absurd g
   about-file (Overdrawn n) g = absurd g
   about-file (Unfit n) g = absurd g
 
-  -- no refusal with a number below c applies
-  abbrev NoneTo : ℕ → Type 0
-  NoneTo c = (b : Answer) → numberOf b < c → Given f t b → ⊥
+  -- and turn and place settle it
+  found : (b : Answer) → Given f t b → inTurn (turnOf b) (placeOf b) ≡ b
+  found Pass g = absurd g
+  found TooShort g = refl
+  found (BadCount i) g = refl
+  found BadLength g = refl
+  found (BadEntry k) g = refl
+  found (BadNode k) g = refl
+  found (BadFlow k) g = refl
+  found (BadCall k) g = refl
+  found (BadCatch k) g = refl
+  found (BadOpening k) g = refl
+  found (NoCallRow n) g = refl
+  found BadSheet g = absurd g
+  found (BadBlock w) g = absurd g
+  found (Broken r) g = absurd g
+  found (Overdrawn n) g = absurd g
+  found (Unfit n) g = absurd g
 
-  module _ (c : ℕ) (answer : ℕ → Answer) (own : (k : ℕ) → answerOf c k ≡ answer k) (none : NoneTo c) where
-    -- an answer with the number c is the one for its place
-    at-place : (b : Answer) → numberOf b ≡ c → Given f t b → Given f t (answer (placeOf b))
-    at-place b e = subst (Given f t) (sym (found b) ∙ (λ i. answerOf (e i) (placeOf b)) ∙ own (placeOf b))
+  settled : (a b : Answer) → Given f t a → Given f t b → turnOf a ≡ turnOf b → placeOf a ≡ placeOf b → a ≡ b
+  settled a b g h p q = sym (found a g) ∙ (λ i. inTurn (p i) (q i)) ∙ found b h
+
+  -- no refusal with a turn below c applies
+  abbrev NoneTo : ℕ → Type 0
+  NoneTo c = (b : Answer) → turnOf b < c → Given f t b → ⊥
+
+  -- the answer has this turn and this place
+  abbrev Stands : Answer → ℕ → ℕ → Type 0
+  Stands a c p = (turnOf a ≡ c) × (placeOf a ≡ p)
+
+  module _ (c : ℕ) (answer : ℕ → Answer) (own : (k : ℕ) → inTurn c k ≡ answer k) (none : NoneTo c) where
+    -- an answer with the turn c is the one for its place
+    at-place : (b : Answer) → turnOf b ≡ c → Given f t b → Given f t (answer (placeOf b))
+    at-place b e g = subst (Given f t) (sym (found b g) ∙ (λ i. inTurn (e i) (placeOf b)) ∙ own (placeOf b)) g
 
     -- where none of them applies either, none up to c does
     none-more : ((k : ℕ) → Given f t (answer k) → ⊥) → NoneTo (suc c)
-    none-more h b l g = elim (decLt (numberOf b) c) [
+    none-more h b l g = elim (decLt (turnOf b) c) [
       | yes k ↦ none b k g
       | no k ↦ h (placeOf b) (at-place b (omega arith) g)
     ]
 
     -- the first is the one with the lowest place
-    first : (k : ℕ) → Says (answer k) c k → Given f t (answer k) → ((j : ℕ) → j < k → Given f t (answer j) → ⊥) → Judges f (answer k)
+    first : (k : ℕ) → Stands (answer k) c k → Given f t (answer k) → ((j : ℕ) → j < k → Given f t (answer j) → ⊥) → Judges f (answer k)
     first k s g low = refuses g go
       where
         go : (b : Answer) → Before b (answer k) → Given f t b → ⊥
-        go b (inl l) = none b (omega (arith, s .number-is))
-        go b (inr l) = λ h. low (placeOf b) (omega (arith, l .1, s .place-is)) (at-place b (l .0 ∙ s .number-is) h)
+        go b (inl l) = none b (omega (arith, s .0))
+        go b (inr l) = λ h. low (placeOf b) (omega (arith, l .1, s .1)) (at-place b (l .0 ∙ s .0) h)
 
     -- a table whose rows are refused by the test `bad`
-    rows-judge : (bad : ℕ → Bool) (n : ℕ) (next : Answer) → ((k : ℕ) → Says (answer k) c k) → ((k : ℕ) → k < n → bad k ≡ true → Given f t (answer k))
+    rows-judge : (bad : ℕ → Bool) (n : ℕ) (next : Answer) → ((k : ℕ) → Stands (answer k) c k) → ((k : ℕ) → k < n → bad k ≡ true → Given f t (answer k))
         → ((k : ℕ) → Given f t (answer k) → (k < n) × (bad k ≡ true)) → (NoneTo (suc c) → Judges f next) → Judges f (refused bad n answer next)
     rows-judge bad n next s make back later = go (ltb (lowest bad n) n) refl
       where
@@ -80,7 +121,7 @@ module _ (f : List ℕ) where
         go false e = later (none-more (λ k g. true≢false (sym (back k g .1) ∙ none-found bad n e k (back k g .0))))
 
     -- a test of the whole file
-    file-judge : (bad : Bool) (next : Answer) → Says (answer 0) c 0 → (bad ≡ true → Given f t (answer 0)) → ((k : ℕ) → Given f t (answer k) → bad ≡ true)
+    file-judge : (bad : Bool) (next : Answer) → Stands (answer 0) c 0 → (bad ≡ true → Given f t (answer 0)) → ((k : ℕ) → Given f t (answer k) → bad ≡ true)
         → (NoneTo (suc c) → Judges f next) → Judges f (cond bad (answer 0) next)
     file-judge bad next s make back later = go bad refl
       where
@@ -92,30 +133,31 @@ module _ (f : List ℕ) where
   pub judges : Judges f (judgeOf f)
   unfolding judgeIn judgeRows
   judges =
-      file-judge 1 (λ k. TooShort) (λ k. refl) (λ b l g. omega (arith, about-file b g .0)) _ _ (says TooShort) (ltb-true (length f) 14) (λ k g. lt-ltb (length f) 14 g)
-      (λ n1. rows-judge 2 BadCount (λ k. refl) n1 _ _ _ (λ k. says (BadCount k)) (λ k l h. (l, h)) (λ k g. g)
-      (λ n2. file-judge 3 (λ k. BadLength) (λ k. refl) n2 _ _ (says BadLength) (λ h. h) (λ k g. g)
-      (λ n3. rows-judge 4 BadEntry (λ k. refl) n3 _ _ _ (λ k. says (BadEntry k)) (λ k l h. (l, h)) (λ k g. g)
-      (λ n4. rows-judge 5 (badNodeAt f t) (λ k. refl) n4 _ _ _ (λ k. says (badNodeAt f t k)) (λ k l h. (l, h)) (λ k g. g)
-      (λ n5. rows-judge 6 BadFlow (λ k. refl) n5 _ _ _ (λ k. says (BadFlow k)) (λ k l h. (l, h)) (λ k g. g)
-      (λ n6. rows-judge 7 BadCall (λ k. refl) n6 _ _ _ (λ k. says (BadCall k)) (λ k l h. (l, h)) (λ k g. g)
-      (λ n7. rows-judge 8 BadCatch (λ k. refl) n7 _ _ _ (λ k. says (BadCatch k)) (λ k l h. (l, h)) (λ k g. g)
-      (λ n8. rows-judge 9 BadOpening (λ k. refl) n8 _ _ _ (λ k. says (BadOpening k)) (λ k l h. (l, h)) (λ k g. g)
-      (λ n9. passes (λ b g. n9 b (about-file b g .1) g) (says Pass))))))))))
+      file-judge 1 (λ k. TooShort) (λ k. refl) (λ b l g. omega (arith, about-file b g .0)) _ _ (refl, refl) (ltb-true (length f) 14) (λ k g. lt-ltb (length f) 14 g)
+      (λ n1. rows-judge 2 BadCount (λ k. refl) n1 _ _ _ (λ k. (refl, refl)) (λ k l h. (l, h)) (λ k g. g)
+      (λ n2. file-judge 3 (λ k. BadLength) (λ k. refl) n2 _ _ (refl, refl) (λ h. h) (λ k g. g)
+      (λ n3. rows-judge 4 BadEntry (λ k. refl) n3 _ _ _ (λ k. (refl, refl)) (λ k l h. (l, h)) (λ k g. g)
+      (λ n4. rows-judge 5 (badNodeAt f t) (λ k. refl) n4 _ _ _ (λ k. (refl, refl)) (λ k l h. (l, h)) (λ k g. g)
+      (λ n5. rows-judge 6 BadFlow (λ k. refl) n5 _ _ _ (λ k. (refl, refl)) (λ k l h. (l, h)) (λ k g. g)
+      (λ n6. rows-judge 7 BadCall (λ k. refl) n6 _ _ _ (λ k. (refl, refl)) (λ k l h. (l, h)) (λ k g. g)
+      (λ n7. rows-judge 8 BadCatch (λ k. refl) n7 _ _ _ (λ k. (refl, refl)) (λ k l h. (l, h)) (λ k g. g)
+      (λ n8. rows-judge 9 (noCallRowAt f t) (λ k. refl) n8 _ _ _ (λ k. (refl, refl)) (λ k l h. (l, h)) (λ k g. g)
+      (λ n9. rows-judge 10 BadOpening (λ k. refl) n9 _ _ _ (λ k. (refl, refl)) (λ k l h. (l, h)) (λ k g. g)
+      (λ n10. passes (λ b g. n10 b (about-file b g .1) g) (says Pass)))))))))))
 
   -- Two answers of which that can be said are one.
   same : {a b : Answer} → Judges f a → Judges f b → a ≡ b
-  same {a} {b} (refuses g h) (refuses k l) = elim (decLt (numberOf a) (numberOf b)) [
+  same {a} {b} (refuses g h) (refuses k l) = elim (decLt (turnOf a) (turnOf b)) [
     | yes u ↦ absurd (l a (inl u) g)
-    | no u ↦ elim (decLt (numberOf b) (numberOf a)) [
+    | no u ↦ elim (decLt (turnOf b) (turnOf a)) [
       | yes v ↦ absurd (h b (inl v) k)
       | no v ↦
-          let e : numberOf a ≡ numberOf b = omega arith in
+          let e : turnOf a ≡ turnOf b = omega arith in
           elim (decLt (placeOf a) (placeOf b)) [
             | yes x ↦ absurd (l a (inr (e, x)) g)
             | no x ↦ elim (decLt (placeOf b) (placeOf a)) [
               | yes y ↦ absurd (h b (inr (sym e, y)) k)
-              | no y ↦ settled a b e (omega arith)
+              | no y ↦ settled a b g k e (omega arith)
             ]
           ]
     ]

@@ -1,6 +1,7 @@
 -- A file that passes: no test applies to it.
 use mathlib.Core.Path.{_≡_, refl, ap}
 use mathlib.Core.Bool.{Bool, true, false, cond}
+use mathlib.Core.Logic.{_⊎_, inl, inr}
 use mathlib.Core.List.{List}
 use Prim.Native.Nat.{ℕ, _<_, _≤_}
 use native.Mathlib.Omega.{arith}
@@ -13,8 +14,8 @@ use Rattle.answer.specs.declared.Answer.{Answer}
 use Rattle.answer.specs.declared.Answer.the-variants.{Pass, TooShort, BadCount, BadLength, BadEntry, BadFlow, BadCall, BadCatch, BadOpening}
 use Rattle.answer.specs.Number.{numberOf}
 use Rattle.tables.specs.declared.Tables.{Tables}
-use Rattle.refuse.specs.Bad.{countBad, lengthBad, entryBad, nodeBad, flowBad, callBad, catchBad, openingBad}
-use Rattle.graph.specs.Places.{badNodeAt}
+use Rattle.refuse.specs.Bad.{countBad, lengthBad, entryBad, nodeBad, flowBad, callBad, catchBad, uncalled, openingBad}
+use Rattle.graph.specs.Places.{badNodeAt, noCallRowAt}
 use Rattle.graph.specs.Judge.{refused, judgeRows, judgeIn}
 
 -- a refusal does not pass, so what comes next does
@@ -22,7 +23,7 @@ cond-pass : (b : Bool) (refusal next : Answer) → cond b refusal next ≡ Pass 
 cond-pass true refusal next h l = let z : numberOf refusal ≡ 0 = ap numberOf h in absurd (omega arith)
 cond-pass false refusal next h l = (refl, h)
 
-rows-pass : (bad : ℕ → Bool) (n : ℕ) (answer : ℕ → Answer) (next : Answer) → refused bad n answer next ≡ Pass → ((k : ℕ) → 0 < numberOf (answer k)) → NoneBelow bad n × (next ≡ Pass)
+pub rows-pass : (bad : ℕ → Bool) (n : ℕ) (answer : ℕ → Answer) (next : Answer) → refused bad n answer next ≡ Pass → ((k : ℕ) → 0 < numberOf (answer k)) → NoneBelow bad n × (next ≡ Pass)
 rows-pass bad n answer next h l =
     let w = cond-pass _ _ next h (l _) in
     (none-found bad n (w .0), w .1)
@@ -37,6 +38,7 @@ pub record Judged (f : List ℕ) (t : Tables) : Type 0 where
   pub flows : NoneBelow (flowBad f t) (t .flows)
   pub calls : NoneBelow (callBad f t) (t .calls)
   pub catches : NoneBelow (catchBad f t) (t .catches)
+  pub called : NoneBelow (uncalled f t) (t .nodes)
   pub opening : NoneBelow (openingBad f t) (t .types)
 
 pub judged : (f : List ℕ) (t : Tables) → judgeIn f t ≡ Pass → Judged f t
@@ -50,32 +52,38 @@ judged f t h =
     let w6 = rows-pass _ _ BadFlow _ (w5 .1) (λ k. lit< tt) in
     let w7 = rows-pass _ _ BadCall _ (w6 .1) (λ k. lit< tt) in
     let w8 = rows-pass _ _ BadCatch _ (w7 .1) (λ k. lit< tt) in
-    let w9 = rows-pass _ _ BadOpening _ (w8 .1) (λ k. lit< tt) in
-    record { long = ltb-false (length f) 14 (w1 .0); counts = w2 .0; whole = w3 .0; entries = w4 .0; nodes = w5 .0; flows = w6 .0; calls = w7 .0; catches = w8 .0; opening = w9 .0 }
+    let w17 = rows-pass _ _ (noCallRowAt f t) _ (w8 .1) (λ k. lit< tt) in
+    let w9 = rows-pass _ _ BadOpening _ (w17 .1) (λ k. lit< tt) in
+    record { long = ltb-false (length f) 14 (w1 .0); counts = w2 .0; whole = w3 .0; entries = w4 .0; nodes = w5 .0; flows = w6 .0; calls = w7 .0; catches = w8 .0; called = w17 .0; opening = w9 .0 }
 
--- the judge answers 1 to 9, or 0
-few : (b : Bool) (a next : Answer) → numberOf a ≤ 9 → numberOf next ≤ 9 → numberOf (cond b a next) ≤ 9
+-- the answer is one that the judge gives: 1 to 9, 17, or 0
+abbrev pub OfFile : Answer → Type 0
+OfFile a = (numberOf a ≤ 9) ⊎ (numberOf a ≡ 17)
+
+few : (b : Bool) (a next : Answer) → OfFile a → OfFile next → OfFile (cond b a next)
 few true a next p q = p
 few false a next p q = q
 
-rows-few : (bad : ℕ → Bool) (n : ℕ) (answer : ℕ → Answer) (next : Answer) → ((k : ℕ) → numberOf (answer k) ≤ 9) → numberOf next ≤ 9 → numberOf (refused bad n answer next) ≤ 9
+rows-few : (bad : ℕ → Bool) (n : ℕ) (answer : ℕ → Answer) (next : Answer) → ((k : ℕ) → OfFile (answer k)) → OfFile next → OfFile (refused bad n answer next)
 rows-few bad n answer next l q = few (ltb (lowest bad n) n) (answer (lowest bad n)) next (l (lowest bad n)) q
 
-pub judge-few : (f : List ℕ) (t : Tables) → numberOf (judgeIn f t) ≤ 9
+pub judge-few : (f : List ℕ) (t : Tables) → OfFile (judgeIn f t)
 unfolding judgeIn judgeRows
 judge-few f t =
     let a9 = refused (openingBad f t) (t .types) BadOpening Pass in
-    let a8 = refused (catchBad f t) (t .catches) BadCatch a9 in
+    let a17 = refused (uncalled f t) (t .nodes) (noCallRowAt f t) a9 in
+    let a8 = refused (catchBad f t) (t .catches) BadCatch a17 in
     let a7 = refused (callBad f t) (t .calls) BadCall a8 in
     let a6 = refused (flowBad f t) (t .flows) BadFlow a7 in
     let a5 = refused (nodeBad f t) (t .nodes) (badNodeAt f t) a6 in
     let a4 = refused (entryBad f t) (t .methods) BadEntry a5 in
     let a3 = cond (lengthBad f t) BadLength a4 in
-    let w9 = rows-few (openingBad f t) (t .types) BadOpening Pass (λ k. omega arith) (omega arith) in
-    let w8 = rows-few (catchBad f t) (t .catches) BadCatch a9 (λ k. omega arith) w9 in
-    let w7 = rows-few (callBad f t) (t .calls) BadCall a8 (λ k. omega arith) w8 in
-    let w6 = rows-few (flowBad f t) (t .flows) BadFlow a7 (λ k. omega arith) w7 in
-    let w5 = rows-few (nodeBad f t) (t .nodes) (badNodeAt f t) a6 (λ k. omega arith) w6 in
-    let w4 = rows-few (entryBad f t) (t .methods) BadEntry a5 (λ k. omega arith) w5 in
-    let w3 = few (lengthBad f t) BadLength a4 (omega arith) w4 in
-    few (ltb (length f) 14) TooShort (refused (countBad f) 6 BadCount a3) (omega arith) (rows-few (countBad f) 6 BadCount a3 (λ k. omega arith) w3)
+    let w9 = rows-few (openingBad f t) (t .types) BadOpening Pass (λ k. inl (omega arith)) (inl (omega arith)) in
+    let w17 = rows-few (uncalled f t) (t .nodes) (noCallRowAt f t) a9 (λ k. inr refl) w9 in
+    let w8 = rows-few (catchBad f t) (t .catches) BadCatch a17 (λ k. inl (omega arith)) w17 in
+    let w7 = rows-few (callBad f t) (t .calls) BadCall a8 (λ k. inl (omega arith)) w8 in
+    let w6 = rows-few (flowBad f t) (t .flows) BadFlow a7 (λ k. inl (omega arith)) w7 in
+    let w5 = rows-few (nodeBad f t) (t .nodes) (badNodeAt f t) a6 (λ k. inl (omega arith)) w6 in
+    let w4 = rows-few (entryBad f t) (t .methods) BadEntry a5 (λ k. inl (omega arith)) w5 in
+    let w3 = few (lengthBad f t) BadLength a4 (inl (omega arith)) w4 in
+    few (ltb (length f) 14) TooShort (refused (countBad f) 6 BadCount a3) (inl (omega arith)) (rows-few (countBad f) 6 BadCount a3 (λ k. inl (omega arith)) w3)

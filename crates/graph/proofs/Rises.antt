@@ -1,4 +1,4 @@
--- The tables of a file that passes are sorted.
+-- Tables of which no row is refused are sorted, and so are those of a file that passes.
 use mathlib.Core.Path.{_≡_, refl}
 use mathlib.Core.Bool.{Bool, true, false}
 use mathlib.Core.Logic.{_⊎_, ⊎-elim}
@@ -12,6 +12,8 @@ use Rattle.tables.specs.declared.Table.the-variants.{Trailer, Methods, Nodes, F
 use Rattle.tables.specs.Fields.{flowFrom, callNode}
 use Rattle.rows.specs.Rows.{keyOf, Sorted}
 use Rattle.refuse.proofs.Fit.{flow-rises, call-rises, catch-fit, catch-rises}
+use Rattle.words.proofs.Lowest.{NoneBelow}
+use Rattle.refuse.specs.Bad.{flowBad, callBad, catchBad}
 use Rattle.graph.proofs.Passed.{Judged}
 
 -- from one row to the next is enough
@@ -32,17 +34,20 @@ steps-rise key n h i (suc k) l u = go (leb i k) refl (λ v. steps-rise key n h i
         let e : i ≡ suc k = omega arith in
         rw e (omega arith)
 
-module _ (f : List ℕ) (t : Tables) (j : Judged f t) where
+module _ (f : List ℕ) (t : Tables) (flows : NoneBelow (flowBad f t) (t .flows)) (calls : NoneBelow (callBad f t) (t .calls)) (catches : NoneBelow (catchBad f t) (t .catches)) where
   catch-step : (k : ℕ) → k < t .catches → (k ≡ 0 → ⊥) → keyOf f t Catches (k - 1) ≤ keyOf f t Catches k
   catch-step k l z =
-      let e = catch-fit f t (k - 1) (j .catches (k - 1) (omega arith)) .exception in
-      ⊎-elim (λ w. omega arith) (λ w. omega arith) (catch-rises f t k (j .catches k l) z)
+      let e = catch-fit f t (k - 1) (catches (k - 1) (omega arith)) .exception in
+      ⊎-elim (λ w. omega arith) (λ w. omega arith) (catch-rises f t k (catches k l) z)
 
-  pub rises : Sorted f t
-  rises Trailer = λ i k l u. l
-  rises Methods = λ i k l u. l
-  rises Nodes = λ i k l u. l
-  rises Flow = steps-rise (flowFrom f t) (t .flows) (λ k l. flow-rises f t k (j .flows k l))
-  rises Calls = steps-rise (callNode f t) (t .calls) (λ k l. call-rises f t k (j .calls k l))
-  rises Catches = steps-rise (keyOf f t Catches) (t .catches) catch-step
-  rises Opening = λ i k l u. l
+  pub sorted : Sorted f t
+  sorted Trailer = λ i k l u. l
+  sorted Methods = λ i k l u. l
+  sorted Nodes = λ i k l u. l
+  sorted Flow = steps-rise (flowFrom f t) (t .flows) (λ k l. flow-rises f t k (flows k l))
+  sorted Calls = steps-rise (callNode f t) (t .calls) (λ k l. call-rises f t k (calls k l))
+  sorted Catches = steps-rise (keyOf f t Catches) (t .catches) catch-step
+  sorted Opening = λ i k l u. l
+
+pub rises : (f : List ℕ) (t : Tables) → Judged f t → Sorted f t
+rises f t j = sorted f t (j .flows) (j .calls) (j .catches)

@@ -17,6 +17,7 @@ use Rattle.answer.proofs.Unpack.{zero-pass}
 use Rattle.model.proofs.Formed.{Formed}
 use Rattle.tables.specs.declared.Tables.{Tables}
 use Rattle.tables.specs.Trailer.{trailer, tablesOf}
+use Rattle.tables.specs.Fields.{callMethod}
 use Rattle.layout.specs.Layout.{Within}
 use Rattle.graph.specs.Judge.{judgeIn, judgeOf}
 use Rattle.graph.specs.Judgement.{shapeOf, noShape, shapeFor, judgedOf}
@@ -24,7 +25,7 @@ use Rattle.graph.specs.Graph.{graphOf}
 use Rattle.graph.proofs.Passed.{judged}
 use Rattle.tables.proofs.Counts.{methods-are, nodes-are, flows-are, calls-are, catches-are, types-are, end-is}
 use Rattle.refuse.specs.Bad.{fewest, most, countBad, lengthBad}
-use Rattle.refuse.proofs.Fit.{count-fit, length-fit, entry-fit, node-fit, flow-fit, call-fit, catch-fit}
+use Rattle.refuse.proofs.Fit.{count-fit, length-fit, entry-fit, node-fit, flow-fit, call-fit, catch-fit, call-named}
 
 -- the limits of the counts
 pub record Limits (t : Tables) : Type 0 where
@@ -86,6 +87,7 @@ formed f h =
       flow-leaves = λ a b w. let r = flow-fit f t (w .0) (j .flows (w .0) (w .1)) in rw (← w .2) (λ u. r .no-return (u .1), λ e u. r .no-throw (u .0 .1));
       catch-inside = λ a e b w. let r = catch-fit f t (w .0) (j .catches (w .0) (w .1)) in rw (← w .2, ← w .3, ← w .4) (r .from, r .to, omega (arith, r .exception), r .one-method);
       calls-inside = λ c m w. let r = call-fit f t (w .0) (j .calls (w .0) (w .1)) in rw (← w .2, ← w .3) ((r .node, r .kind), r .method);
+      call-has-row = λ c w. let r = call-named f t c (j .called c (w .0)) (w .1) in (callMethod f t (r .0), (r .0, r .1, r .2, refl));
       some-repeats = λ c w. node-fit f t c (j .nodes c (w .0)) .repeats (w .1);
       eight-exceptions = λ n e w. rw (← w .1) (omega (arith, node-fit f t n (j .nodes n (w .0 .0)) .exception (w .0 .1)));
     }

@@ -1,4 +1,4 @@
--- What the judge's answer means: the table "What comes back", numbers 1 to 9, and 0.
+-- What the judge's answer means: the table "What comes back", numbers 1 to 9 and 17, and 0.
 use Prim.Native.Nat.{ℕ, _<_}
 use mathlib.Core.Path.{_≡_}
 use mathlib.Core.Bool.{true}
@@ -6,11 +6,11 @@ use mathlib.Core.Logic.{_⊎_}
 use mathlib.Core.List.{List}
 use lib.ListN.{length}
 use Rattle.answer.specs.declared.Answer.{Answer}
-use Rattle.answer.specs.declared.Answer.the-variants.{Pass, TooShort, BadCount, BadLength, BadEntry, BadNode, BadFlow, BadCall, BadCatch, BadOpening, BadSheet, BadBlock, Broken, Overdrawn, Unfit}
-use Rattle.answer.specs.Number.{numberOf, placeOf, Says}
+use Rattle.answer.specs.declared.Answer.the-variants.{Pass, TooShort, BadCount, BadLength, BadEntry, BadNode, BadFlow, BadCall, BadCatch, BadOpening, BadSheet, BadBlock, Broken, Overdrawn, Unfit, NoCallRow}
+use Rattle.answer.specs.Number.{placeOf, Says}
 use Rattle.tables.specs.declared.Tables.{Tables}
 use Rattle.tables.specs.Trailer.{tablesOf}
-use Rattle.refuse.specs.Bad.{countBad, lengthBad, entryBad, nodeBad, flowBad, callBad, catchBad, openingBad}
+use Rattle.refuse.specs.Bad.{countBad, lengthBad, entryBad, nodeBad, flowBad, callBad, catchBad, uncalled, openingBad}
 
 -- "Given when": the refusal applies to a file whose trailer says t
 abbrev pub Given : List ℕ → Tables → Answer → Type 0
@@ -22,6 +22,7 @@ Given f t (BadNode k) = (k < t .nodes) × (nodeBad f t k ≡ true)
 Given f t (BadFlow k) = (k < t .flows) × (flowBad f t k ≡ true)
 Given f t (BadCall k) = (k < t .calls) × (callBad f t k ≡ true)
 Given f t (BadCatch k) = (k < t .catches) × (catchBad f t k ≡ true)
+Given f t (NoCallRow n) = (n < t .nodes) × (uncalled f t n ≡ true)
 Given f t (BadOpening k) = (k < t .types) × (openingBad f t k ≡ true)
 -- the others are not about the file alone
 Given f t BadSheet = ⊥
@@ -31,9 +32,29 @@ Given f t (Overdrawn n) = ⊥
 Given f t (Unfit n) = ⊥
 Given f t Pass = ⊥
 
+-- the order of the refusals: 1 to 8, 17, 9
+abbrev pub turnOf : Answer → ℕ
+turnOf TooShort = 1
+turnOf (BadCount i) = 2
+turnOf BadLength = 3
+turnOf (BadEntry k) = 4
+turnOf (BadNode k) = 5
+turnOf (BadFlow k) = 6
+turnOf (BadCall k) = 7
+turnOf (BadCatch k) = 8
+turnOf (NoCallRow n) = 9
+turnOf (BadOpening k) = 10
+-- the others have no turn here
+turnOf BadSheet = 0
+turnOf (BadBlock w) = 0
+turnOf (Broken r) = 0
+turnOf (Overdrawn n) = 0
+turnOf (Unfit n) = 0
+turnOf Pass = 0
+
 -- "The first that applies, in this order; within a table the lowest row."
 abbrev pub Before : Answer → Answer → Type 0
-Before b a = (numberOf b < numberOf a) ⊎ ((numberOf b ≡ numberOf a) × (placeOf b < placeOf a))
+Before b a = (turnOf b < turnOf a) ⊎ ((turnOf b ≡ turnOf a) × (placeOf b < placeOf a))
 
 pub data Judges (f : List ℕ) (a : Answer) : Type 0 where
   refuses : Given f (tablesOf f) a → ((b : Answer) → Before b a → Given f (tablesOf f) b → ⊥) → Judges f a

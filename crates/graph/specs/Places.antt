@@ -2,12 +2,16 @@
 use Prim.Native.Nat.{ℕ}
 use mathlib.Core.List.{List}
 use Rattle.answer.specs.declared.Answer.{Answer}
-use Rattle.answer.specs.declared.Answer.the-variants.{BadNode, Overdrawn, Unfit}
+use Rattle.answer.specs.declared.Answer.the-variants.{BadNode, Overdrawn, Unfit, NoCallRow}
 use Rattle.tables.specs.declared.Tables.{Tables}
 
 -- 5: row k of the nodes is refused
 abbrev pub badNodeAt : List ℕ → Tables → ℕ → Answer
 badNodeAt f t k = BadNode k
+
+-- 17: the node n is a call without a call row
+abbrev pub noCallRowAt : List ℕ → Tables → ℕ → Answer
+noCallRowAt f t n = NoCallRow n
 
 -- 13: overdrawn at the node n
 abbrev pub overdrawnAt : List ℕ → Tables → ℕ → Answer

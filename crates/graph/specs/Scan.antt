@@ -8,6 +8,7 @@ use Rattle.tables.specs.declared.Tables.{Tables}
 use Rattle.tables.specs.declared.Table.{Table}
 use Rattle.tables.specs.declared.Table.the-variants.{Trailer, Methods, Nodes, Flow, Calls, Catches, Opening}
 use Rattle.graph.specs.Places.{badNodeAt}
+use Rattle.graph.specs.Judge.{refused}
 use Rattle.refuse.specs.Bad.{countBad, entryBad, nodeBad, flowBad, callBad, catchBad, openingBad}
 
 -- which rows of the table are refused
@@ -29,3 +30,13 @@ badRow f t Flow k = BadFlow k
 badRow f t Calls k = BadCall k
 badRow f t Catches k = BadCatch k
 badRow f t Opening k = BadOpening k
+
+-- The first stage of the judge, methods to catches: 4 to 8, and where none applies, what comes next.
+unfoldable pub judgeTables : List ℕ → Tables → Answer → Answer
+judgeTables f t next =
+    refused (entryBad f t) (t .methods) BadEntry
+    (refused (nodeBad f t) (t .nodes) (badNodeAt f t)
+    (refused (flowBad f t) (t .flows) BadFlow
+    (refused (callBad f t) (t .calls) BadCall
+    (refused (catchBad f t) (t .catches) BadCatch
+    next))))

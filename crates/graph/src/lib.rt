@@ -1,19 +1,22 @@
-// The judgement of a graph file: answers 1 to 9.
+// The judgement of a graph file: answers 1 to 9 and 17.
 use answer::Answer;
 use layout::Shape;
 use tables::Table;
 use tables::Tables;
 ghost use mathlib.Core.Path.{_≡_};
 ghost use Rattle.words.specs.Lowest.{lowest};
+ghost use Rattle.answer.specs.declared.Answer.the-variants.{Pass};
 ghost use Rattle.tables.specs.Rows.{rowsOf};
+ghost use Rattle.refuse.specs.Bad.{uncalled};
+ghost use Rattle.rows.specs.Rows.{Sorted};
 ghost use Rattle.layout.specs.Layout.{Within};
-ghost use Rattle.graph.specs.Places.{badNodeAt, overdrawnAt, unfitAt};
+ghost use Rattle.graph.specs.Places.{badNodeAt, noCallRowAt, overdrawnAt, unfitAt};
 ghost use Rattle.graph.specs.Judge.{refused, judgeRows, judgeIn};
-ghost use Rattle.graph.specs.Scan.{rowBad, badRow};
+ghost use Rattle.graph.specs.Scan.{rowBad, badRow, judgeTables};
 ghost use Rattle.graph.specs.Judgement.{shapeFor, judgedOf};
 ghost use Rattle.graph.specs.Meaning.{Judges};
 
-// What is found of a file by looking at it once: the answer 1 to 9 or 0, its tables, and the shape of its sheet.
+// What is found of a file by looking at it once: the answer 1 to 9, 17 or 0, its tables, and the shape of its sheet.
 pub struct Judgement {
     pub answer: Answer,
     pub tables: Tables,
@@ -25,6 +28,12 @@ fn bad_node_at(f: &[u8], t: Tables, k: u16) -> Answer
     ensures { λ r. ⌜ r ≡ badNodeAt (now (f .entry)) t k ⌝ }
 {
     Answer::BadNode(k)
+}
+
+fn no_call_row_at(f: &[u8], t: Tables, n: u16) -> Answer
+    ensures { λ r. ⌜ r ≡ noCallRowAt (now (f .entry)) t n ⌝ }
+{
+    Answer::NoCallRow(n)
 }
 
 pub fn overdrawn_at(f: &[u8], t: Tables, n: u16) -> Answer
@@ -94,16 +103,56 @@ fn refused(f: &[u8], t: Tables, table: Table, next: Answer) -> Answer
     next
 }
 
-// What a table answers stands before what the next one answers, so the last table is looked at first.
-fn judge_rows(f: &[u8], t: Tables) -> Answer
-    ensures { λ r. ⌜ r ≡ judgeRows (now (f .entry)) t ⌝ }
+// The node is a call and no call row names it: in a sorted table its stretch is empty.
+fn uncalled(f: &[u8], t: Tables, n: u16) -> bool
+    requires { ⌜ Sorted (now f) t ⌝ }
+    ensures { λ r. ⌜ r ≡ uncalled (now (f .entry)) t n ⌝ }
 {
-    let opening = refused(f, t, Table::Opening, Answer::Pass);
-    let catches = refused(f, t, Table::Catches, opening);
+    if tables::node_kind(f, t, n) != tables::CALL {
+        return false;
+    }
+    rows::no_rows(rows::calls_of(f, t, n))
+}
+
+// The lowest such node, or how many nodes there are.
+fn lowest_uncalled(f: &[u8], t: Tables) -> u16
+    requires { ⌜ Sorted (now f) t ⌝ }
+    ensures { λ r. ⌜ r ≡ lowest (uncalled (now (f .entry)) t) (t .nodes) ⌝ }
+{
+    let mut n = 0;
+    while n < t.nodes {
+        if uncalled(f, t, n) {
+            return n;
+        }
+        n += 1;
+    }
+    t.nodes
+}
+
+// What a table answers stands before what the next one answers, so the last table of the stage is looked at first.
+fn judge_tables(f: &[u8], t: Tables) -> Answer
+    ensures { λ r. ⌜ r ≡ judgeTables (now (f .entry)) t Pass ⌝ }
+{
+    let catches = refused(f, t, Table::Catches, Answer::Pass);
     let calls = refused(f, t, Table::Calls, catches);
     let flow = refused(f, t, Table::Flow, calls);
     let nodes = refused(f, t, Table::Nodes, flow);
     refused(f, t, Table::Methods, nodes)
+}
+
+// Calls without a row are looked for where the first stage refuses nothing: the tables are sorted then.
+fn judge_rows(f: &[u8], t: Tables) -> Answer
+    ensures { λ r. ⌜ r ≡ judgeRows (now (f .entry)) t ⌝ }
+{
+    let first = judge_tables(f, t);
+    if answer::number(first) != 0 {
+        return first;
+    }
+    let n = lowest_uncalled(f, t);
+    if n < t.nodes {
+        return no_call_row_at(f, t, n);
+    }
+    refused(f, t, Table::Opening, Answer::Pass)
 }
 
 fn judge(f: &[u8], t: Tables) -> Answer

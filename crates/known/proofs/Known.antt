@@ -15,7 +15,7 @@ use Rattle.model.specs.Stocks.{done, stepOf}
 use Rattle.model.specs.Rounds.{lowest-rounds, whole-rounds, earlier-rounds}
 use Rattle.tables.specs.Trailer.{trailerAt, trailer, tablesOf}
 use Rattle.tables.specs.Fields.{entryOf, nodeMethod, nodeKind, nodeNumber, nodeCount, nodeRights, flowFrom, flowTo, callNode, callMethod, openingRights, openingCount}
-use Rattle.refuse.specs.Bad.{above, notAbove, flowRow, countBad, lengthBad, entryBad, outOfRange, unusedSet, nodeBad, flowBad, callBad, openingBad}
+use Rattle.refuse.specs.Bad.{above, notAbove, flowRow, countBad, lengthBad, entryBad, outOfRange, unusedSet, nodeBad, flowBad, callBad, uncalled, openingBad}
 use Rattle.graph.specs.Judge.{judgeRows, judgeIn}
 use Rattle.rows.specs.Rows.{firstRow, stretchOf}
 use Rattle.nodes.specs.Nodes.{doesIn, openingIn}
@@ -101,7 +101,7 @@ unfolding byteAt wordAt lowest inTurn
     less left countAfter rightsAfter normDrop thenCap sumDrop rank largerDrop countAtMost within normalForm normalOne idle drawn granted applyOne thenOne bothOne atMostOne heldAtMost coversHeld
     normalOf nothingDone drawOf grantOf applyOf thenOf bothOf atMostOf stockAtMostOf coversOf with-at replaced oneTaken done stepOf lowest-rounds whole-rounds earlier-rounds
     trailerAt trailer tablesOf entryOf nodeMethod nodeKind nodeNumber nodeCount nodeRights flowFrom flowTo callNode callMethod openingRights openingCount
-    above notAbove flowRow countBad lengthBad entryBad outOfRange unusedSet nodeBad flowBad callBad openingBad judgeRows judgeIn
+    above notAbove flowRow countBad lengthBad entryBad outOfRange unusedSet nodeBad flowBad callBad uncalled openingBad judgeRows judgeIn
     firstRow stretchOf doesIn openingIn methodAt exitAt nodeAt sheetWords sheetBytes blockSize blockAt
     stockAt effectAt someWord countsFit illBlock wholeOf roundsOf
     marked asked unasked entryDemand flowDemand returnDemand leaveDemand nodeDemand calledIn

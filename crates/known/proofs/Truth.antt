@@ -2,6 +2,7 @@
 use Prim.Native.Nat.{ℕ, _<_}
 use mathlib.Core.Path.{_≡_, sym, ap, subst}
 use mathlib.Core.Bool.{Bool, true, false, _&&_, not}
+use mathlib.Core.Logic.{⊎-elim}
 use mathlib.Core.List.{List, [], _∷_}
 use native.Mathlib.Omega.{arith}
 use lib.Dec.{ltb, eqb}
@@ -77,7 +78,7 @@ module _ (f u : List ℕ) where
   CoversBelow n = WellFormed f u × ((r : ℕ) → Holds f u r) × ((m : ℕ) → m < n → IsReached f u m → IsCovered f u m)
 
   was-overdrawn : {a : Answer} → Checks f u a → numberOf a ≡ 13 → CoversBelow (placeOf a)
-  was-overdrawn (refused n v) e = absurd (omega (arith, judge-few f (tablesOf f), v .number-is))
+  was-overdrawn (refused n v) e = absurd (⊎-elim (λ w. omega (arith, v .number-is)) (λ w. omega (arith, v .number-is)) (judge-few f (tablesOf f)))
   was-overdrawn (wrong-length p n v) e = absurd (omega (arith, v .number-is))
   was-overdrawn (ill-formed p q b l h k v) e = absurd (omega (arith, v .number-is))
   was-overdrawn (broken w r h n v) e = absurd (omega (arith, v .number-is))

@@ -66,6 +66,7 @@ formed = record {
   flow-leaves = flow-on;
   catch-inside = λ a e b h. absurd h;
   calls-inside = calls-home;
+  call-has-row = λ c h. (1, rw h c01);
   some-repeats = λ c h. omega arith;
   eight-exceptions = λ n e h. absurd h;
 }

@@ -11,5 +11,6 @@ pub record Formed (G : Graph) : Type 0 where
   pub flow-leaves : (a b : ℕ) → G .Flow a b → ((G .Return a → ⊥) × ((e : ℕ) → G .Throw a e → ⊥))
   pub catch-inside : (a e b : ℕ) → G .Catch a e b → (a < G .nodes) × (b < G .nodes) × (e < 8) × (G .method a ≡ G .method b)
   pub calls-inside : (c m : ℕ) → G .Calls c m → G .Call c × (m < G .methods)
+  pub call-has-row : (c : ℕ) → G .Call c → (m : ℕ) × G .Calls c m
   pub some-repeats : (c : ℕ) → G .Call c → 0 < G .repeats c
   pub eight-exceptions : (n e : ℕ) → G .Throw n e → e < 8

@@ -43,7 +43,7 @@ module _ (f : List ℕ) where
 
   -- For a profile, where `Breaks` says which nodes break it, the answer a.
   pub data Profiled (Breaks : ℕ → Type 0) (a : Answer) : Type 0 where
-    -- 1 to 9: the file is refused
+    -- 1 to 9, 17: the file is refused
     refused : (judgeOf f ≡ Pass → ⊥) → Says a (numberOf (judgeOf f)) (placeOf (judgeOf f)) → Profiled Breaks a
     -- 14: the lowest node that breaks the profile
     unfit : judgeOf f ≡ Pass → (n : ℕ) → Breaks n → ((m : ℕ) → m < n → Breaks m → ⊥) → Says a 14 n → Profiled Breaks a

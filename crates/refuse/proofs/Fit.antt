@@ -1,19 +1,20 @@
 -- What each row that is not refused ensures, table by table.
 use mathlib.Core.Path.{_≡_}
-use mathlib.Core.Bool.{false, not, _&&_}
+use mathlib.Core.Bool.{Bool, false, not, _&&_}
 use mathlib.Core.Logic.{_⊎_}
 use mathlib.Core.List.{List}
 use Prim.Native.Nat.{ℕ, _+_, _-_, _<_, _≤_}
 use lib.ListN.{length}
 use lib.Dec.{eqb}
-use borrow.Author.Tests.{leb-false, ltb-false, eqb-false, eqb-true, not-false, eq-eqb, ne-eqb}
-use Rattle.words.proofs.Lowest.{NoneBelow}
+use borrow.Author.Tests.{leb-false, ltb-true, ltb-false, eqb-false, eqb-true, not-false, eq-eqb, ne-eqb}
+use Rattle.words.specs.Lowest.{lowest}
+use Rattle.words.proofs.Lowest.{NoneBelow, is-lowest}
 use Rattle.words.proofs.Tests.{neither, not-both, or-l, or-r, not-zero}
 use Rattle.tables.specs.declared.Tables.{Tables}
 use Rattle.tables.specs.Trailer.{trailer}
 use Rattle.tables.specs.Kinds.{grantKind, drawKind, callKind, returnKind, throwKind}
 use Rattle.tables.specs.Fields.{entryOf, nodeMethod, nodeKind, nodeNumber, nodeCount, flowFrom, flowTo, callNode, callMethod, catchFrom, catchException, catchTo, openingCount}
-use Rattle.refuse.specs.Bad.{notAbove, flowRow, callRow, catchRow, fewest, most, countBad, lengthBad, entryBad, outOfRange, nodeBad, flowBad, callBad, throwsOther, catchBad, openingBad}
+use Rattle.refuse.specs.Bad.{notAbove, flowRow, callRow, catchRow, fewest, most, countBad, lengthBad, entryBad, outOfRange, nodeBad, flowBad, callBad, throwsOther, catchBad, uncalled, openingBad}
 use Rattle.refuse.proofs.Order.{pair-rises, triple-rises, Rises, none-twice}
 
 rises : (row : ℕ → List ℕ) (k : ℕ) → notAbove row k ≡ false → Rises row k
@@ -145,6 +146,14 @@ module _ (f : List ℕ) (t : Tables) where
   length-fit h =
       let w = neither _ _ h in
       (eqb-true _ _ (not-false _ (w .0)), eqb-true _ _ (not-false _ (w .1)))
+
+  -- a call has a row that names it
+  pub call-named : (n : ℕ) → uncalled f t n ≡ false → nodeKind f t n ≡ callKind → (k : ℕ) × (k < t .calls) × (callNode f t k ≡ n)
+  unfolding uncalled
+  call-named n h e =
+      let names : ℕ → Bool = λ k. eqb (callNode f t k) n in
+      let l = ltb-true _ _ (not-false _ (not-both _ _ h (eq-eqb _ _ e))) in
+      (lowest names (t .calls), l, eqb-true _ _ (is-lowest names (t .calls) .found l))
 
   -- from the row before to this one, where there is one
   pub flow-rises : (k : ℕ) → flowBad f t k ≡ false → (k ≡ 0 → ⊥) → flowFrom f t (k - 1) ≤ flowFrom f t k

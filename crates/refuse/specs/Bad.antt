@@ -1,9 +1,10 @@
--- Which counts, lengths and rows are refused: the conditions of the table "What comes back", numbers 2 to 9.
+-- Which counts, lengths and rows are refused: the conditions of the table "What comes back", numbers 2 to 9 and 17.
 use Prim.Native.Nat.{ℕ, _+_, _-_}
 use mathlib.Core.Bool.{Bool, false, _||_, _&&_, not}
 use mathlib.Core.List.{List, [], _∷_}
 use lib.ListN.{length, getD}
 use lib.Dec.{ltb, leb, eqb}
+use Rattle.words.specs.Lowest.{lowest}
 use Rattle.tables.specs.declared.Tables.{Tables}
 use Rattle.tables.specs.Trailer.{trailer}
 use Rattle.tables.specs.Kinds.{grantKind, drawKind, callKind, returnKind, throwKind}
@@ -118,6 +119,14 @@ catchBad f t k =
     || throwsOther (nodeKind f t (catchFrom f t k)) (nodeNumber f t (catchFrom f t k)) (catchException f t k)
     || twoMethods f t (catchFrom f t k) (catchTo f t k)
     || notAbove (catchRow f t) k
+
+-- some call row names the node
+abbrev pub named : List ℕ → Tables → ℕ → Bool
+named f t n = ltb (lowest (λ k. eqb (callNode f t k) n) (t .calls)) (t .calls)
+
+-- 17: the node is a call and no call row names it
+unfoldable pub uncalled : List ℕ → Tables → ℕ → Bool
+uncalled f t n = eqb (nodeKind f t n) callKind && not (named f t n)
 
 -- 9: opening count above 255
 unfoldable pub openingBad : List ℕ → Tables → ℕ → Bool
