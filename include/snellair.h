@@ -2,12 +2,13 @@
  *
  * Operations over bytes that the caller lends: whatever the bytes are, and
  * however many, there is an answer. None allocates or keeps anything. Link
- * target/staticlib/libloader.a; docs/FORMAT.md has the layout of graph and
- * sheet.
+ * target/staticlib/libloader.a; docs/FORMAT.md has the layout of graph, sheet
+ * and listing.
  *
  * All that is asked of the caller: behind a pointer there are as many bytes as
- * the length after it says, and the sheet that work out writes does not overlap
- * the graph. With length 0 a pointer is not used, and may be NULL. */
+ * the length after it says, and what is written, the sheet and the output,
+ * overlaps nothing else that is lent. With length 0 a pointer is not used, and
+ * may be NULL. */
 #ifndef SNELLAIR_H
 #define SNELLAIR_H
 
@@ -30,6 +31,17 @@ uint64_t snellair_work_out(const uint8_t *graph, size_t graph_len,
  * has no run that overdraws. */
 uint64_t snellair_check(const uint8_t *graph, size_t graph_len,
                         const uint8_t *sheet, size_t sheet_len);
+
+/* Works out the sheet of a graph as snellair_work_out does, with the same
+ * answer, and writes the listing of what it found: the text that the program
+ * prints, one line for a refusal. What the sheet held before does not matter.
+ * The output is the text, and 0 behind it to its end, at least one: so it is a
+ * C string. An output of fewer than SNELLAIR_LISTING_ROOM bytes is answered
+ * SNELLAIR_OUTPUT_SHORT before all else, and neither sheet nor output is
+ * touched. */
+uint64_t snellair_listing(const uint8_t *graph, size_t graph_len,
+                          uint8_t *sheet, size_t sheet_len,
+                          uint8_t *output, size_t output_len);
 
 /* Whether a graph, which is only read, fits a profile: how its add-on asks for
  * permits. SNELLAIR_PASS says that it does, SNELLAIR_UNFIT names the lowest
@@ -54,7 +66,8 @@ uint64_t snellair_session(const uint8_t *graph, size_t graph_len);
 #define SNELLAIR_LINE(answer) ((unsigned long)((answer) >> 40 & 0xFFFFFFu))
 
 /* The numbers, and what the place tells. 0 and 13 are verdicts, the others
- * refusals; 11 and 12 come from check only, 14 from the profiles only. */
+ * refusals; 11 and 12 come from check only, 14 from the profiles only, 26 from
+ * the listing only. */
 enum snellair_number {
     SNELLAIR_PASS = 0,         /* 0 */
     SNELLAIR_TOO_SHORT = 1,    /* 0: fewer than 14 bytes */
@@ -71,11 +84,12 @@ enum snellair_number {
     SNELLAIR_BROKEN_RULE = 12, /* lowest sheet rule that is broken, 1 to 10 */
     SNELLAIR_OVERDRAWN = 13,   /* lowest reached node not covered */
     SNELLAIR_UNFIT = 14,       /* lowest node that breaks the profile */
-    SNELLAIR_NO_CALL_ROW = 17  /* lowest call node that no call row names */
+    SNELLAIR_NO_CALL_ROW = 17, /* lowest call node that no call row names */
+    SNELLAIR_OUTPUT_SHORT = 26 /* 0: the output's length */
 };
 
 /* The limits: most methods, nodes and types; the longest graph file and the
- * longest sheet, in bytes. */
+ * longest sheet, in bytes; the longest listing with the 0 behind it. */
 #define SNELLAIR_MOST_METHODS 64u
 #define SNELLAIR_MOST_NODES 512u
 #define SNELLAIR_MOST_TYPES 6u
@@ -83,6 +97,8 @@ enum snellair_number {
 #define SNELLAIR_LONGEST_SHEET \
     SNELLAIR_SHEET_BYTES(SNELLAIR_MOST_METHODS, SNELLAIR_MOST_NODES, \
                          SNELLAIR_MOST_TYPES)
+
+#define SNELLAIR_LISTING_ROOM 46095u
 
 /* The bytes of the sheet of a graph with so many methods, nodes and types:
  * the first, second and sixth count of its trailer. */

@@ -3,7 +3,7 @@ use Prim.Native.Nat.{_/_, _%_, _<_}
 use mathlib.Core.Path.{_≡_, sym, _∙_}
 use native.Mathlib.Omega.{arith}
 use Rattle.answer.specs.declared.Answer.{Answer}
-use Rattle.answer.specs.declared.Answer.the-variants.{Pass, TooShort, BadCount, BadLength, BadEntry, BadNode, BadFlow, BadCall, BadCatch, BadOpening, BadSheet, BadBlock, Broken, Overdrawn, Unfit, NoCallRow}
+use Rattle.answer.specs.declared.Answer.the-variants.{Pass, TooShort, BadCount, BadLength, BadEntry, BadNode, BadFlow, BadCall, BadCatch, BadOpening, BadSheet, BadBlock, Broken, Overdrawn, Unfit, NoCallRow, OutputShort}
 use Rattle.answer.specs.Number.{numberOf, placeOf, packedOf}
 use Rattle.answer.proofs.Settled.{answerOf, found}
 
@@ -24,6 +24,7 @@ number-small (Broken r) = omega arith
 number-small (Overdrawn n) = omega arith
 number-small (Unfit n) = omega arith
 number-small (NoCallRow n) = omega arith
+number-small OutputShort = omega arith
 
 pub number-unpacked : (a : Answer) → packedOf a % 256 ≡ numberOf a
 number-unpacked a = omega (arith, number-small a)

@@ -2,7 +2,7 @@
 use Prim.Native.Nat.{ℕ, _+_, _*_}
 use mathlib.Core.Path.{_≡_}
 use Rattle.answer.specs.declared.Answer.{Answer}
-use Rattle.answer.specs.declared.Answer.the-variants.{Pass, TooShort, BadCount, BadLength, BadEntry, BadNode, BadFlow, BadCall, BadCatch, BadOpening, BadSheet, BadBlock, Broken, Overdrawn, Unfit, NoCallRow}
+use Rattle.answer.specs.declared.Answer.the-variants.{Pass, TooShort, BadCount, BadLength, BadEntry, BadNode, BadFlow, BadCall, BadCatch, BadOpening, BadSheet, BadBlock, Broken, Overdrawn, Unfit, NoCallRow, OutputShort}
 
 abbrev pub numberOf : Answer → ℕ
 -- pass
@@ -32,6 +32,8 @@ numberOf (Overdrawn n) = 13
 numberOf (Unfit n) = 14
 -- a call without a call row
 numberOf (NoCallRow n) = 17
+-- the lent output is too short
+numberOf OutputShort = 26
 
 abbrev pub placeOf : Answer → ℕ
 placeOf Pass = 0
@@ -57,6 +59,7 @@ placeOf (Overdrawn n) = n
 placeOf (Unfit n) = n
 -- lowest such node
 placeOf (NoCallRow n) = n
+placeOf OutputShort = 0
 
 -- the answer has this number and this place
 pub record Says (a : Answer) (number place : ℕ) : Type 0 where

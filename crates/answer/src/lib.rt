@@ -1,5 +1,6 @@
 // What comes back: one case for each number, with its place.
 ghost use mathlib.Core.Path.{_≡_};
+ghost use Prim.Native.Nat.{_<_};
 ghost use Rattle.answer.specs.Number.{numberOf, placeOf, packedOf};
 
 pub enum Answer {
@@ -19,6 +20,7 @@ pub enum Answer {
     Overdrawn(u16),
     Unfit(u16),
     NoCallRow(u16),
+    OutputShort,
 }
 
 pub fn number(a: Answer) -> u16
@@ -41,11 +43,12 @@ pub fn number(a: Answer) -> u16
         Answer::Overdrawn(_) => 13,
         Answer::Unfit(_) => 14,
         Answer::NoCallRow(_) => 17,
+        Answer::OutputShort => 26,
     }
 }
 
 pub fn place(a: Answer) -> u32
-    ensures { λ r. ⌜ r ≡ placeOf a ⌝ }
+    ensures { λ r. ⌜ (r ≡ placeOf a) × (r < 65536) ⌝ }
 {
     match a {
         Answer::Pass => 0,
@@ -64,6 +67,7 @@ pub fn place(a: Answer) -> u32
         Answer::Overdrawn(n) => n as u32,
         Answer::Unfit(n) => n as u32,
         Answer::NoCallRow(n) => n as u32,
+        Answer::OutputShort => 0,
     }
 }
 

@@ -12,7 +12,7 @@ use borrow.Author.Tests.{ltb-true, ltb-false, lt-ltb}
 use Rattle.words.specs.Lowest.{lowest}
 use Rattle.words.proofs.Lowest.{is-lowest, none-found}
 use Rattle.answer.specs.declared.Answer.{Answer}
-use Rattle.answer.specs.declared.Answer.the-variants.{Pass, TooShort, BadCount, BadLength, BadEntry, BadNode, BadFlow, BadCall, BadCatch, BadOpening, BadSheet, BadBlock, Broken, Overdrawn, Unfit, NoCallRow}
+use Rattle.answer.specs.declared.Answer.the-variants.{Pass, TooShort, BadCount, BadLength, BadEntry, BadNode, BadFlow, BadCall, BadCatch, BadOpening, BadSheet, BadBlock, Broken, Overdrawn, Unfit, NoCallRow, OutputShort}
 use Rattle.answer.specs.Number.{placeOf}
 use Rattle.answer.proofs.Settled.{says-only, says}
 use Rattle.tables.specs.declared.Tables.{Tables}
@@ -58,6 +58,7 @@ module _ (f : List ℕ) where
   about-file (Broken r) g = absurd g
   about-file (Overdrawn n) g = absurd g
   about-file (Unfit n) g = absurd g
+  about-file OutputShort g = absurd g
 
   -- and turn and place settle it
   found : (b : Answer) → Given f t b → inTurn (turnOf b) (placeOf b) ≡ b
@@ -77,6 +78,7 @@ module _ (f : List ℕ) where
   found (Broken r) g = absurd g
   found (Overdrawn n) g = absurd g
   found (Unfit n) g = absurd g
+  found OutputShort g = absurd g
 
   settled : (a b : Answer) → Given f t a → Given f t b → turnOf a ≡ turnOf b → placeOf a ≡ placeOf b → a ≡ b
   settled a b g h p q = sym (found a g) ∙ (λ i. inTurn (p i) (q i)) ∙ found b h

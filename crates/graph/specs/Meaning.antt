@@ -6,7 +6,7 @@ use mathlib.Core.Logic.{_⊎_}
 use mathlib.Core.List.{List}
 use lib.ListN.{length}
 use Rattle.answer.specs.declared.Answer.{Answer}
-use Rattle.answer.specs.declared.Answer.the-variants.{Pass, TooShort, BadCount, BadLength, BadEntry, BadNode, BadFlow, BadCall, BadCatch, BadOpening, BadSheet, BadBlock, Broken, Overdrawn, Unfit, NoCallRow}
+use Rattle.answer.specs.declared.Answer.the-variants.{Pass, TooShort, BadCount, BadLength, BadEntry, BadNode, BadFlow, BadCall, BadCatch, BadOpening, BadSheet, BadBlock, Broken, Overdrawn, Unfit, NoCallRow, OutputShort}
 use Rattle.answer.specs.Number.{placeOf, Says}
 use Rattle.tables.specs.declared.Tables.{Tables}
 use Rattle.tables.specs.Trailer.{tablesOf}
@@ -30,6 +30,7 @@ Given f t (BadBlock w) = ⊥
 Given f t (Broken r) = ⊥
 Given f t (Overdrawn n) = ⊥
 Given f t (Unfit n) = ⊥
+Given f t OutputShort = ⊥
 Given f t Pass = ⊥
 
 -- the order of the refusals: 1 to 8, 17, 9
@@ -50,6 +51,7 @@ turnOf (BadBlock w) = 0
 turnOf (Broken r) = 0
 turnOf (Overdrawn n) = 0
 turnOf (Unfit n) = 0
+turnOf OutputShort = 0
 turnOf Pass = 0
 
 -- "The first that applies, in this order; within a table the lowest row."

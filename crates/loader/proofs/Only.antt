@@ -1,4 +1,4 @@
--- No second number, and no second content of the sheet, fits.
+-- No second number, and no second content of the sheet or the output, fits.
 use Prim.Native.Nat.{ℕ}
 use mathlib.Core.Path.{_≡_, sym, ap, _∙_}
 use mathlib.Core.List.{List}
@@ -6,7 +6,8 @@ use Rattle.answer.specs.Number.{packedOf}
 use Rattle.profile.proofs.Breaks as profile
 use Rattle.permit.proofs.Meaning as check
 use Rattle.work.proofs.Only as work
-use Rattle.loader.specs.Reply.{WorkedOut, Checked, OneShot, Session}
+use Rattle.listed.proofs.Only as listed
+use Rattle.loader.specs.Reply.{WorkedOut, Checked, OneShot, Session, ListedOut}
 
 pub one-reply : {f s r q : List ℕ} {n m : ℕ} → WorkedOut f s r n → WorkedOut f s q m → (n ≡ m) × (r ≡ q)
 one-reply {f} {s} {r} {q} a b =
@@ -21,3 +22,8 @@ one-one-shot {f} a b = a .packed ∙ ap packedOf (profile.only f (a .means) (b .
 
 pub one-session : {f : List ℕ} {n m : ℕ} → Session f n → Session f m → n ≡ m
 one-session {f} a b = a .packed ∙ ap packedOf (profile.only f (a .means) (b .means)) ∙ sym (b .packed)
+
+pub one-list : {f s r t o p q : List ℕ} {n m : ℕ} → ListedOut f s r o p n → ListedOut f s t o q m → (n ≡ m) × (r ≡ t) × (p ≡ q)
+one-list a b =
+    let same = listed.one-listing (a .lists) (b .lists) in
+    (a .packed ∙ ap packedOf (same .0) ∙ sym (b .packed), same .1, same .2)

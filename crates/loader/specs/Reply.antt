@@ -8,6 +8,7 @@ use Rattle.nodes.specs.Program.{Safe}
 use Rattle.profile.specs.Profile.{Profiled, BreaksOneShot, BreaksSession}
 use Rattle.permit.specs.Meaning.{Checks}
 use Rattle.work.specs.Meaning.{WorksOut}
+use Rattle.listed.specs.Lists.{Lists}
 
 -- of work out: s is the lent sheet before and r after
 pub record WorkedOut (f s r : List ℕ) (n : ℕ) : Type 0 where
@@ -33,4 +34,11 @@ pub record OneShot (f : List ℕ) (n : ℕ) : Type 0 where
 pub record Session (f : List ℕ) (n : ℕ) : Type 0 where
   pub answer : Answer
   pub means : Profiled f (BreaksSession f) answer
+  pub packed : n ≡ packedOf answer
+
+-- of the listing: the lent sheet was s and is r, the lent output was o and is q
+pub record ListedOut (f s r o q : List ℕ) (n : ℕ) : Type 0 where
+  pub answer : Answer
+  pub length : ℕ
+  pub lists : Lists f s r o q answer length
   pub packed : n ≡ packedOf answer

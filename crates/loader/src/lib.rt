@@ -2,7 +2,7 @@
 ghost use mathlib.Core.Path.{_≡_};
 ghost use Rattle.answer.specs.Number.{packedOf};
 ghost use Rattle.permit.specs.Check.{checkOf};
-ghost use Rattle.loader.specs.Reply.{Checked, WorkedOut, OneShot, Session};
+ghost use Rattle.loader.specs.Reply.{Checked, WorkedOut, OneShot, Session, ListedOut};
 
 // Work out: the graph file is only read, the sheet is written after the verdicts 0 and 13.
 #[no_mangle]
@@ -35,4 +35,14 @@ pub extern "C" fn snellair_session(f: &[u8]) -> u64
     ensures { λ r. ⌜ Session (now (f .entry)) r ⌝ }
 {
     answer::packed(profile::session(f))
+}
+
+// The listing: the file is worked out in the sheet, and the output is the text of the listing and 0 behind it.
+#[no_mangle]
+pub extern "C" fn snellair_listing(f: &[u8], s: &mut [u8], out: &mut [u8]) -> u64
+    ensures { λ r. ⌜ ListedOut (now (f .entry)) (now (s .entry)) (now (s .exit)) (now (out .entry)) (now (out .exit)) r ⌝ }
+{
+    let reply = listed::list(f, s, out);
+    let a = reply.answer;
+    answer::packed(a)
 }

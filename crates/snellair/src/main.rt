@@ -1,108 +1,96 @@
-// Reads one graph file on standard input and prints the listing: the answer, and then for each reached node and type
-// the rights and the count that a run brings at least.
+// Reads one graph file on standard input and prints its listing: the answer, and then for each reached node and type the
+// rights and the count that a run brings at least. What fails is said on standard error.
 use answer::Answer;
-use effect::Stock;
-use graph::Judgement;
-use layout::Shape;
+use libc::STDERR_FILENO;
 use libc::STDIN_FILENO;
 use libc::STDOUT_FILENO;
-use tables::Tables;
 ghost use mathlib.Core.Path.{_≡_};
 ghost use Prim.Native.Nat.{_≤_};
-ghost use Rattle.graph.specs.Judgement.{judgedOf};
-ghost use Rattle.layout.specs.Layout.{Within};
+ghost use lib.ListN.{length, take};
+ghost use Rattle.listed.specs.Lists.{Prints};
 
-fn print(text: &[u8]) {
-    io::write_all(STDOUT_FILENO, text);
+struct Input {
+    failed: bool,
+    length: usize,
 }
 
-fn print_number(n: u64) {
-    io::print_decimal(STDOUT_FILENO, n);
+fn complain(text: &[u8]) {
+    io::write_all(STDERR_FILENO, text);
 }
 
-// `pass`, `overdrawn` and the node, or `refused`, the number and the place.
-fn print_answer(a: Answer) {
-    let number = answer::number(a);
-    if number == 0 {
-        print(b"pass\n");
-        return;
-    }
-    if number == 13 {
-        print(b"overdrawn ");
-    } else {
-        print(b"refused ");
-        print_number(number as u64);
-        print(b" ");
-    }
-    print_number(answer::place(a) as u64);
-    print(b"\n");
-}
-
-// An endless count is a star.
-fn print_count(count: u16) {
-    if count == 255 {
-        print(b"*");
-    } else {
-        print_number(count as u64);
-    }
-}
-
-fn print_line(n: u16, k: usize, rights: u16, count: u16) {
-    print_number(n as u64);
-    print(b" ");
-    print_number(k as u64);
-    print(b" ");
-    io::print_hex(STDOUT_FILENO, rights as u64, 4);
-    print(b" ");
-    print_count(count);
-    print(b"\n");
-}
-
-fn print_stock(n: u16, types: usize, held: Stock)
-    requires { ⌜ types ≤ 6 ⌝ }
+// All that comes on standard input, or as much as there is room for.
+fn read(file: &mut [u8]) -> Input
+    ensures { λ r. ⌜ r .length ≤ length (now (file .exit)) ⌝ }
 {
-    for k in 0..types {
-        print_line(n, k, held.rights[k], held.counts[k]);
-    }
-}
-
-fn print_nodes(f: &[u8], t: Tables, x: Shape, s: &[u8])
-    requires { ⌜ Within x ⌝ }
-{
-    for n in 0..x.nodes {
-        if listing::reached(f, t, x, s, n) {
-            print_stock(n, x.types as usize, listing::stock(f, t, x, s, n));
+    let mut n = 0;
+    while n < file.len() {
+        let got = libc::read(STDIN_FILENO, &mut file[n..]);
+        if got < 0 {
+            return Input {
+                failed: true,
+                length: 0,
+            };
         }
+        let more = io::count(got, &file[n..]);
+        if more == 0 {
+            break;
+        }
+        n += more;
+    }
+    Input {
+        failed: false,
+        length: n,
     }
 }
 
-// The answer and the nodes, by way of the sheet s, which is as long as the judgement j of the file f says.
-fn list_in(f: &[u8], j: Judgement, s: &mut [u8])
-    requires { ⌜ (j ≡ judgedOf (now f)) × Within (j .shape) ⌝ }
+// Only the listing of the input is ever printed.
+fn print(input: &[u8], listing: &[u8]) -> bool
+    requires { ⌜ Prints (now input) (now listing) ⌝ }
 {
-    let a = work::of_judged(f, j, s);
-    print_answer(a);
-    let t = j.tables;
-    let x = j.shape;
-    print_nodes(f, t, x, s);
+    io::write_all(STDOUT_FILENO, listing)
 }
 
-// The sheet is the part of the longest that the file asks for. A file that is refused asks for none, and has no nodes.
-fn list(f: &[u8]) {
-    let j = graph::judged(f);
+// Its length is all that is said of each of these two, so that no proof has to look at its bytes.
+fn longest_file() -> [u8; 12455]
+    ensures { λ r. ⌜ 12455 ≡ length r ⌝ }
+{
+    [0; 12455]
+}
+
+fn longest_listing() -> [u8; 46095]
+    ensures { λ r. ⌜ 46095 ≡ length r ⌝ }
+{
+    [0; 46095]
+}
+
+// The listing of the input at the start of `out`. The sheet is the part of the longest that the file asks for.
+fn list(input: &[u8], out: &mut [u8]) -> usize
+    requires { ⌜ 46095 ≤ length (now out) ⌝ }
+    ensures { λ r. ⌜ (r ≤ length (now (out .exit))) × Prints (now (input .entry)) (take r (now (out .exit))) ⌝ }
+{
+    if input.len() > 12454 {
+        return text::put_first(out, 0, Answer::BadLength);
+    }
+    let j = graph::judged(input);
     let x = j.shape;
     let end = layout::sheet_bytes(x);
     let mut sheet = layout::longest_sheet();
-    list_in(f, j, &mut sheet[..end]);
+    let reply = listed::of_judged(input, j, &mut sheet[..end], out);
+    reply.length
 }
 
 // One byte more than the longest file is read, and refused without a look at the rest.
 fn main() {
-    let mut file = [0u8; 12455];
-    let n = io::read_full(STDIN_FILENO, &mut file);
-    if n > 12454 {
-        print_answer(Answer::BadLength);
+    let mut file = longest_file();
+    let input = read(&mut file);
+    if input.failed {
+        complain(b"snellair: standard input could not be read\n");
         return;
     }
-    list(&file[..n]);
+    let mut out = longest_listing();
+    let n = input.length;
+    let m = list(&file[..n], &mut out);
+    if !print(&file[..n], &out[..m]) {
+        complain(b"snellair: the listing could not be written\n");
+    }
 }

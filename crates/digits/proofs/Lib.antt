@@ -1,0 +1,4 @@
+pub mod Join
+pub mod Lengths
+pub mod Back
+pub mod Shown

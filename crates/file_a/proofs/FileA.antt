@@ -1,0 +1,91 @@
+-- File A's listing, byte for byte, by computation: two sweeps write its sheet, a third finds nothing to lower.
+use Prim.Native.Nat.{ℕ}
+use mathlib.Core.Path.{_≡_, refl, subst, _∙_}
+use mathlib.Core.Bool.{true, false}
+use mathlib.Core.List.{List}
+use lib.ListN.{length, replicate}
+use native.Mathlib.Omega.{arith}
+use Rattle.words.specs.Bytes.{byteAt, wordAt}
+use Rattle.words.specs.Lowest.{lowest}
+use Rattle.words.specs.Turn.{inTurn}
+use Rattle.words.specs.Write.{bytesOf}
+use Rattle.digits.specs.Text.{joined}
+use Rattle.digits.specs.Digits.{placeText, decimal}
+use Rattle.effect.specs.Whole.{nothingDone, drawOf, grantOf, applyOf, thenOf, bothOf, lowerOf, atMostOf, stockAtMostOf, coversOf}
+use Rattle.effect.proofs.Compute.{less, left, countAfter, rightsAfter, normDrop, thenCap, sumDrop, rank, largerDrop, countAtMost, within, normalForm, idle, drawn, granted, applyOne, thenOne, bothOne, lowerHeld, atMostOne, heldAtMost, coversHeld}
+use Rattle.model.specs.Stocks.{stepOf}
+use Rattle.answer.specs.declared.Answer.the-variants.{Pass}
+use Rattle.model.specs.Rounds.{lowest-rounds, whole-rounds, earlier-rounds}
+use Rattle.tables.specs.Trailer.{trailerAt, trailer, tablesOf}
+use Rattle.tables.specs.Fields.{entryOf, nodeMethod, nodeKind, nodeNumber, nodeCount, nodeRights, flowFrom, flowTo, callNode, callMethod, openingRights, openingCount}
+use Rattle.refuse.specs.Bad.{above, notAbove, flowRow, countBad, lengthBad, entryBad, outOfRange, unusedSet, nodeBad, flowBad, callBad, uncalled, openingBad}
+use Rattle.graph.specs.Judge.{judgeRows, judgeIn, judgeOf}
+use Rattle.graph.specs.Judgement.{shapeOf, shapeFor, judgedOf}
+use Rattle.rows.specs.Rows.{firstRow, stretchOf}
+use Rattle.nodes.specs.Nodes.{doesIn, openingIn}
+use Rattle.layout.specs.Layout.{methodAt, exitAt, nodeAt, sheetWords, sheetBytes}
+use Rattle.sheet.specs.Read.{stockAt, effectAt, marked}
+use Rattle.sheet.specs.Write.{stockWord, effectWord}
+use Rattle.sheet.specs.Under.{effectUnder, stockUnder}
+use Rattle.rounds.specs.Rounds.{wholeOf, roundsOf}
+use Rattle.demand.specs.Demand.{asked, unasked, entryDemand, flowDemand, returnDemand, leaveDemand, nodeDemand, calledIn}
+use Rattle.rules.specs.Tests.{met, targetUnder, startUnder, afterCall, intoCall}
+use Rattle.permit.specs.Check.{uncoveredAt, verdictOf}
+use Rattle.lower.specs.Lower.{effectTo, stockTo}
+use Rattle.sweep.specs.Sweep.{meetTo, startTo, targetTo, afterTo, intoTo, thrownTo, thrownHolds, calledTo, calledHolds, tableTo, tableHolds, sweepTo, sweepHolds}
+use Rattle.work.specs.Swept.{unswept, again}
+use Rattle.work.specs.Meaning.{WorksOut}
+use Rattle.work.proofs.Sweeping.{answers}
+use Rattle.text.specs.Listing.{firstLine, countText, lineOf, nodeLines, listingOf}
+use Rattle.listed.specs.Lists.{textOf, Prints, whole}
+use Rattle.listed.proofs.Only.{one-text}
+use Rattle.known.specs.File.{words, nodeRows, pairs, triples, distance, fileBytes}
+use Rattle.known.specs.Table.{aWith}
+use Rattle.file_a.specs.Printed.{fileA, printed}
+
+blank : List ℕ
+blank = replicate 242 0
+
+-- what the first sweep leaves, and the second
+one : List ℕ
+one = sweepTo fileA (tablesOf fileA) (shapeOf (tablesOf fileA)) false blank
+
+two : List ℕ
+two = sweepTo fileA (tablesOf fileA) (shapeOf (tablesOf fileA)) true one
+
+-- All that is computed: the file passes, the sheet's length, the third sweep is content, the verdict, and the text.
+record Computed : Type 0 where
+  passed : judgeOf fileA ≡ Pass
+  small : length fileA ≡ 68
+  long : length blank ≡ sheetBytes (shapeOf (tablesOf fileA))
+  room : length blank ≡ sheetBytes (judgedOf fileA .shape)
+  content : sweepHolds fileA (tablesOf fileA) (shapeOf (tablesOf fileA)) false two ≡ true
+  verdict : verdictOf fileA (tablesOf fileA) (shapeOf (tablesOf fileA)) two ≡ Pass
+  text : textOf fileA Pass two ≡ printed
+
+computed : Computed
+unfolding byteAt wordAt lowest joined placeText decimal
+    less left countAfter rightsAfter normDrop thenCap sumDrop rank largerDrop countAtMost within normalForm idle drawn granted applyOne thenOne bothOne lowerHeld atMostOne heldAtMost coversHeld
+    nothingDone drawOf grantOf applyOf thenOf bothOf lowerOf atMostOf stockAtMostOf coversOf stepOf lowest-rounds whole-rounds earlier-rounds
+    trailerAt trailer tablesOf entryOf nodeMethod nodeKind nodeNumber nodeCount nodeRights flowFrom flowTo callNode callMethod openingRights openingCount
+    above notAbove flowRow countBad lengthBad entryBad outOfRange unusedSet nodeBad flowBad callBad uncalled openingBad judgeRows judgeIn
+    firstRow stretchOf doesIn openingIn methodAt exitAt nodeAt sheetWords sheetBytes
+    stockAt effectAt bytesOf stockWord effectWord wholeOf roundsOf
+    marked asked unasked entryDemand flowDemand returnDemand leaveDemand nodeDemand calledIn
+    effectUnder stockUnder met targetUnder startUnder afterCall intoCall uncoveredAt
+    effectTo stockTo inTurn meetTo startTo targetTo afterTo intoTo thrownTo thrownHolds calledTo calledHolds tableTo tableHolds sweepTo sweepHolds
+    firstLine countText lineOf nodeLines listingOf shapeFor
+    words nodeRows pairs triples distance fileBytes aWith blank one two
+computed = record { passed = refl; small = refl; long = refl; room = refl; content = refl; verdict = refl; text = refl }
+
+worked : WorksOut fileA blank two Pass
+unfolding blank one two
+worked =
+    subst (WorksOut fileA blank two) (computed .verdict)
+    (answers
+    (record { passed = computed .passed; own = refl; shaped = refl; long = computed .long })
+    (record { swept = again true (again false unswept); backwards = false; content = computed .content }))
+
+-- Of file A the program prints these bytes and no others.
+pub file-a : {text : List ℕ} → Prints fileA text → text ≡ printed
+file-a p = one-text p (whole (omega (arith, computed .small)) (computed .room) worked) ∙ computed .text

@@ -1,0 +1,35 @@
+-- The lines that document 01 prints for file A, and one of each other kind.
+use mathlib.Core.Path.{_≡_, refl}
+use Rattle.digits.specs.Text.{ascii}
+use Rattle.digits.specs.Digits.{placeText, decimal}
+use Rattle.answer.specs.declared.Answer.the-variants.{Pass, BadLength, BadBlock, Overdrawn}
+use Rattle.text.specs.Listing.{overdrawnLine, refusedLine, firstLine, countText, lineOf}
+
+known-line : lineOf 1 0 (record { rights = 0x0101; count = 2 }) ≡ ascii "1 0 0101 2\n"
+unfolding lineOf decimal placeText countText
+known-line = refl
+
+known-endless : lineOf 511 5 (record { rights = 0xf0ad; count = 255 }) ≡ ascii "511 5 f0ad *\n"
+unfolding lineOf decimal placeText countText
+known-endless = refl
+
+known-zero : lineOf 0 0 (record { rights = 0; count = 0 }) ≡ ascii "0 0 0000 0\n"
+unfolding lineOf decimal placeText countText
+known-zero = refl
+
+known-pass : firstLine Pass ≡ ascii "pass\n"
+unfolding firstLine
+known-pass = refl
+
+known-overdrawn : firstLine (Overdrawn 3) ≡ ascii "overdrawn 3\n"
+unfolding firstLine overdrawnLine decimal placeText
+known-overdrawn = refl
+
+known-refused : firstLine (BadBlock 10204) ≡ ascii "refused 11 10204\n"
+unfolding firstLine refusedLine decimal placeText
+known-refused = refl
+
+-- "For input longer than 12,454 bytes the program prints `refused 3 0`"
+pub known-too-long : firstLine BadLength ≡ ascii "refused 3 0\n"
+unfolding firstLine refusedLine decimal placeText
+known-too-long = refl

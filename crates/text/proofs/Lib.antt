@@ -1,0 +1,4 @@
+pub mod Lengths
+pub mod Longest
+pub mod Shown
+pub mod Known
