@@ -20,9 +20,10 @@ extern "C" {
 #endif
 
 /* Works out the permission sheet of a graph. The sheet's length is exactly
- * SNELLAIR_SHEET_BYTES of the graph's counts; any other is answered 10. After
- * the verdicts SNELLAIR_PASS and SNELLAIR_OVERDRAWN all of the sheet is
- * written; after any refusal it is byte for byte as it was. */
+ * SNELLAIR_SHEET_BYTES of the graph's counts; any other is answered
+ * SNELLAIR_BAD_SHEET, if the graph itself is not refused. After the verdicts
+ * SNELLAIR_PASS and SNELLAIR_OVERDRAWN all of the sheet is written; after any
+ * refusal it is byte for byte as it was. */
 uint64_t snellair_work_out(const uint8_t *graph, size_t graph_len,
                            uint8_t *sheet, size_t sheet_len);
 
@@ -67,7 +68,8 @@ uint64_t snellair_session(const uint8_t *graph, size_t graph_len);
 
 /* The numbers, and what the place tells. 0 and 13 are verdicts, the others
  * refusals; 11 and 12 come from check only, 14 from the profiles only, 26 from
- * the listing only. */
+ * the listing only. The first that applies is given: 26, then 1 to 8, 17, 9,
+ * then 10 to 14, and 0 where none does. */
 enum snellair_number {
     SNELLAIR_PASS = 0,         /* 0 */
     SNELLAIR_TOO_SHORT = 1,    /* 0: fewer than 14 bytes */
