@@ -35,7 +35,9 @@ uint64_t snellair_check(const uint8_t *graph, size_t graph_len,
 
 /* Works out the sheet of a graph as snellair_work_out does, with the same
  * answer, and writes the listing of what it found: the text that the program
- * prints, one line for a refusal. What the sheet held before does not matter.
+ * prints, one line for a refusal. (Of a file above SNELLAIR_LONGEST_GRAPH bytes
+ * the program always prints `refused 3 0`; the call gives its own answer.) What
+ * the sheet held before does not matter.
  * The output is the text, and 0 behind it to its end, at least one: so it is a
  * C string. An output of fewer than SNELLAIR_LISTING_ROOM bytes is answered
  * SNELLAIR_OUTPUT_SHORT before all else, and neither sheet nor output is
@@ -46,13 +48,13 @@ uint64_t snellair_listing(const uint8_t *graph, size_t graph_len,
 
 /* Whether a graph, which is only read, fits a profile: how its add-on asks for
  * permits. SNELLAIR_PASS says that it does, SNELLAIR_UNFIT names the lowest
- * node that breaks it.
+ * node that breaks it; a graph that is refused gets its refusal first.
  *
  * One-shot, for add-ons that ask right before each use: every flow row into a
  * draw leaves a grant of the same type whose rights contain the draw's and
  * whose count is exactly 1, and no draw is an entry node or the target of a
- * catch row. A graph that fits has no run that overdraws, so
- * snellair_work_out passes it. */
+ * catch row. A graph that fits has no run that overdraws, so with a sheet of
+ * the right length snellair_work_out passes it. */
 uint64_t snellair_one_shot(const uint8_t *graph, size_t graph_len);
 
 /* Session, for add-ons that ask at start-up: every grant stands in method 0
@@ -69,7 +71,7 @@ uint64_t snellair_session(const uint8_t *graph, size_t graph_len);
 /* The numbers, and what the place tells. 0 and 13 are verdicts, the others
  * refusals; 11 and 12 come from check only, 14 from the profiles only, 26 from
  * the listing only. The first that applies is given: 26, then 1 to 8, 17, 9,
- * then 10 to 14, and 0 where none does. */
+ * then 10 to 14, and 0 where none does; within a table the lowest row. */
 enum snellair_number {
     SNELLAIR_PASS = 0,         /* 0 */
     SNELLAIR_TOO_SHORT = 1,    /* 0: fewer than 14 bytes */
@@ -91,7 +93,7 @@ enum snellair_number {
 };
 
 /* The limits: most methods, nodes and types; the longest graph file and the
- * longest sheet, in bytes; the longest listing with the 0 behind it. */
+ * longest sheet, in bytes; room for any listing and the 0 behind it. */
 #define SNELLAIR_MOST_METHODS 64u
 #define SNELLAIR_MOST_NODES 512u
 #define SNELLAIR_MOST_TYPES 6u

@@ -8,7 +8,7 @@ ghost use Rattle.graph.specs.Judgement.{judgedOf};
 ghost use Rattle.layout.specs.Layout.{Within};
 ghost use Rattle.listed.specs.Lists.{textOf, padded, Lists};
 
-// The longest listing has 46,094 bytes, and a 0 stands behind it.
+// No listing has more than 46,094 bytes, and a 0 stands behind it.
 pub const ROOM: usize = 46095;
 
 pub struct Reply {

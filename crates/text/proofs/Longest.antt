@@ -1,4 +1,4 @@
--- The longest listing: 512 times 6 lines of 15 bytes after `overdrawn` and a node of three digits.
+-- No listing is longer than 512 times 6 lines of 15 bytes after `overdrawn` and a node of three digits.
 use Prim.Native.Nat.{ℕ, _+_, _≤_, _<_}
 use mathlib.Core.Path.{_≡_, refl, ap, _∙_}
 use mathlib.Core.Bool.{Bool, true, false, cond}
