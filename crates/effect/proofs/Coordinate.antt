@@ -1,6 +1,7 @@
 -- The laws of stocks and effects at one coordinate, where only that coordinate matters.
 --   apply-mono, apply-nothing, apply-then, apply-both, at-lower
 --   the steps: apply-grant, apply-draw
+--   of one type: below-at, at-below
 --   the tests: stock-at-sound, stock-at-complete, at-most-at-sound, at-most-at-complete
 --   a draw: covers-sound, covers-complete; Asked, covers-asked, uncovered
 use Prim.Native.Nat.{ℕ, zero, suc, _≤_, _<_, min}
@@ -24,21 +25,17 @@ use Rattle.effect.specs.declared.Stock.{Stock}
 use Rattle.effect.specs.declared.Effect.{Effect}
 use Rattle.effect.specs.Six.{heldAt, oneAt, effectOf}
 use Rattle.effect.specs.Whole.{nothingDone, oneIf, drawOf, grantOf, applyOf, thenOf, bothOf, atMostOf, stockAtMostOf, lowerOf, coversOf}
-use Rattle.effect.specs.Coordinate.{bit, Coordinate, right, count, at}
-use Rattle.effect.specs.Meaning.{Below, AtMost, with-at, replaced, oneTaken, Covers}
+use Rattle.effect.specs.Coordinate.{bit, Coordinate, right, count, typeOf, at}
+use Rattle.effect.specs.Meaning.{Below, AtMost, BelowAt, with-at, replaced, oneTaken, Covers}
 use Rattle.effect.proofs.Bools.{and-l, and-r, and-i}
 use Rattle.effect.proofs.Bit.{bit-lt, bit-and, word-bits, within-bit, bit-within}
 use Rattle.effect.proofs.Count.{after-mono, after-nothing}
 use Rattle.effect.proofs.Rights.{rights-mono, rights-nothing}
 use Rattle.effect.proofs.Six.{below-six, effect-at}
-use Rattle.effect.proofs.Single.{one-granted, one-drawn}
+use Rattle.effect.proofs.Single.{HeldBelow, one-granted, one-drawn}
 use Rattle.effect.proofs.Laws as laws
 
--- a coordinate's type, and what is seen of one type
-abbrev pub typeOf : Coordinate → ℕ
-typeOf (right k b h l) = k
-typeOf (count k h) = k
-
+-- a coordinate's type is one of the six; what is seen of one type
 pub type-lt : (i : Coordinate) → typeOf i < 6
 type-lt (right k b h l) = h
 type-lt (count k h) = h
@@ -160,34 +157,34 @@ apply-draw t (count k h) s = elim (ℕ-discrete k t) [
   | no n ↦ at-other t drawn (count k h) s n ∙ sym (ap counted (with-other t (less (getD (s .counts) t 0) 1) (s .counts) k h n))
 ]
 
--- one stock is below another if and, for rights that are words, only if it is at every coordinate
-below-at : (s t : Stock) → laws.EachBelow s t → Below s t
+-- of one type, a stock is below another if and, for rights that are words, only if it is at every coordinate of that type
+pub below-at : (s t : Stock) (k : ℕ) → HeldBelow (heldAt s k) (heldAt t k) → BelowAt k s t
 unfolding at
-below-at s t q (right k b h _) = q k h .every-right b
-below-at s t q (count k h) = q k h .the-count
+below-at s t k q (right j b _ _) e = rw e (q .every-right b)
+below-at s t k q (count j _) e = rw e (q .the-count)
 
-at-below : (s t : Stock) → ((k : ℕ) → k < 6 → heldAt s k .rights < 65536) → Below s t → laws.EachBelow s t
+pub at-below : (s t : Stock) (k : ℕ) → k < 6 → heldAt s k .rights < 65536 → BelowAt k s t → HeldBelow (heldAt s k) (heldAt t k)
 unfolding at
-at-below s t w q k h =
+at-below s t k h w q =
     record {
-      every-right = word-bits (heldAt s k .rights) (heldAt t k .rights) (w k h) (λ b l. q (right k b h l));
-      the-count = q (count k h);
+      every-right = word-bits (heldAt s k .rights) (heldAt t k .rights) w (λ b l. q (right k b h l) refl);
+      the-count = q (count k h) refl;
     }
 
 pub stock-at-sound : (s t : Stock) → stockAtMostOf s t ≡ true → Below s t
-stock-at-sound s t p = below-at s t (laws.stock-sound s t p)
+stock-at-sound s t p i = below-at s t (typeOf i) (laws.stock-sound s t p (typeOf i) (type-lt i)) i refl
 
 pub stock-at-complete : (s t : Stock) → ((k : ℕ) → k < 6 → heldAt s k .rights < 65536) → Below s t → stockAtMostOf s t ≡ true
-stock-at-complete s t w q = laws.stock-complete s t (at-below s t w q)
+stock-at-complete s t w q = laws.stock-complete s t (λ k h. at-below s t k h (w k h) (λ i e. q i))
 
 pub at-most-at-sound : (a b : Effect) → atMostOf a b ≡ true → AtMost a b
-at-most-at-sound a b p s = below-at (applyOf a s) (applyOf b s) (laws.at-most-sound a b p s)
+at-most-at-sound a b p s i =
+    below-at (applyOf a s) (applyOf b s) (typeOf i) (laws.at-most-sound a b p s (typeOf i) (type-lt i)) i refl
 
 -- what an effect leaves is within its keep-max
-applied-word : (e : Effect) (s : Stock) → laws.Words e → (k : ℕ) → k < 6 → heldAt (applyOf e s) k .rights < 65536
+pub applied-word : (e : Effect) (s : Stock) (k : ℕ) → k < 6 → oneAt e k .keepmax < 65536 → heldAt (applyOf e s) k .rights < 65536
 unfolding applyOne rightsAfter
-applied-word e s w k h =
-    let m = w k h in
+applied-word e s k h w =
     omega (
       arith,
       ap (λ (g : Held). g .rights) (laws.applied-at e s k h),
@@ -196,7 +193,7 @@ applied-word e s w k h =
 
 pub at-most-at-complete : (a b : Effect) → laws.Words a → AtMost a b → atMostOf a b ≡ true
 at-most-at-complete a b w q =
-    laws.at-most-complete a b (λ s. at-below (applyOf a s) (applyOf b s) (applied-word a s w) (q s))
+    laws.at-most-complete a b (λ s k h. at-below (applyOf a s) (applyOf b s) k h (applied-word a s k h (w k h)) (λ i e. q s i))
 
 -- the test of a draw is the meaning
 pub covers-sound : (s : Stock) (t p : ℕ) → coversOf s t p ≡ true → Covers s t p

@@ -185,22 +185,28 @@ lower-same s t v c q =
     ∙ v
 
 -- the test of effects is the meaning
+pub one-at-most : (a b : Effect) (k : ℕ) → k < 6 → atMostOne (oneAt a k) (oneAt b k) ≡ true
+    → (s : Stock) → HeldBelow (heldAt (applyOf a s) k) (heldAt (applyOf b s) k)
+one-at-most a b k h t s = below-along (applied-at a s k h) (applied-at b s k h) (one-sound (oneAt a k) (oneAt b k) t (heldAt s k))
+
 pub at-most-sound : (a b : Effect) → atMostOf a b ≡ true → EachAtMost a b
 unfolding atMostOf
-at-most-sound a b t s k h =
-    below-along (applied-at a s k h) (applied-at b s k h)
-    (one-sound (oneAt a k) (oneAt b k) (all-e (λ k. atMostOne (oneAt a k) (oneAt b k)) t k h) (heldAt s k))
+at-most-sound a b t s k h = one-at-most a b k h (all-e (λ k. atMostOne (oneAt a k) (oneAt b k)) t k h) s
 
 -- the same of every type tells each type's effect
-pub at-most-complete : (a b : Effect) → EachAtMost a b → atMostOf a b ≡ true
-unfolding atMostOf
-at-most-complete a b q =
-    all-i (λ k. atMostOne (oneAt a k) (oneAt b k))
-    (λ k h. one-complete (oneAt a k) (oneAt b k)
+pub at-most-one : (a b : Effect) (k : ℕ) → k < 6 → ((s : Stock) → HeldBelow (heldAt (applyOf a s) k) (heldAt (applyOf b s) k))
+    → atMostOne (oneAt a k) (oneAt b k) ≡ true
+at-most-one a b k h q =
+    one-complete (oneAt a k) (oneAt b k)
     (λ g. let s = stockOf (λ j. g) in
     let at : (e : Effect) → applyOne (oneAt e k) g ≡ heldAt (applyOf e s) k =
     λ e. sym (applied-at e s k h ∙ ap (applyOne (oneAt e k)) (stock-at (λ j. g) k h)) in
-    below-along (at a) (at b) (q s k h)))
+    below-along (at a) (at b) (q s))
+
+pub at-most-complete : (a b : Effect) → EachAtMost a b → atMostOf a b ≡ true
+unfolding atMostOf
+at-most-complete a b q =
+    all-i (λ k. atMostOne (oneAt a k) (oneAt b k)) (λ k h. at-most-one a b k h (λ s. q s k h))
 
 pub at-most-refl : (a : Effect) → atMostOf a a ≡ true
 unfolding atMostOf

@@ -9,6 +9,7 @@ pub mod Laws
 pub mod Potential
 pub mod Coordinate
 pub mod Types
+pub mod Failing
 pub mod Means
 pub mod Compute
 pub mod Fields

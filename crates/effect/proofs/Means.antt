@@ -16,15 +16,16 @@ use denote.Struct.Declared.{row}
 use Rattle.effect.specs.declared.Stock.{Stock}
 use Rattle.effect.specs.declared.Effect.{Effect}
 use Rattle.effect.specs.Six.{heldAt, oneAt}
-use Rattle.effect.specs.Whole.{normalOf, applyOf, atMostOf, stockAtMostOf, lowerOf, coversOf}
+use Rattle.effect.specs.Whole.{normalOf, applyOf, atMostOf, stockAtMostOf, failsOf, stockFailsOf, lowerOf, coversOf}
 use Rattle.effect.specs.Coordinate.{Coordinate, at}
-use Rattle.effect.specs.Meaning.{Below, AtMost, Covers, NormalAt, Normal, Leaves, Exactly}
+use Rattle.effect.specs.Meaning.{Below, AtMost, BelowAt, AtMostAt, LowestFailing, Covers, NormalAt, Normal, Leaves, Exactly}
 use Rattle.effect.proofs.Effect as effect
 use Rattle.effect.proofs.Stock as stock
 use Rattle.effect.proofs.Six.{all-i, SixOnes}
 use Rattle.effect.proofs.Single.{normal-true, true-normal}
 use Rattle.effect.proofs.Laws.{Words, normal-at, at-most-anti}
 use Rattle.effect.proofs.Coordinate.{at-lower, stock-at-sound, stock-at-complete, at-most-at-sound, at-most-at-complete, covers-sound, covers-complete}
+use Rattle.effect.proofs.Failing.{fails-means, stock-fails-means}
 use Rattle.single.specs.Formulas.{normalOne}
 
 -- the test of normal form is the meaning
@@ -73,6 +74,12 @@ effect-words e p k h = word k (e .keepmax) (p .1 .1 .1 .0 .0) (p .1 .1 .1 .0 .1 
 
 pub stock-words : (s : Stock) {vs : List Val} → Is (row stock.the-type) s vs → (k : ℕ) → k < 6 → heldAt s k .rights < 65536
 stock-words s p k h = word k (s .rights) (p .1 .1 .0 .0) (p .1 .1 .0 .1 .1)
+
+pub tells-fails : {r : ℕ} (a b : Effect) {vs : List Val} → Is (row effect.the-type) a vs → r ≡ failsOf a b → (r ≡ failsOf a b) × LowestFailing (λ k. AtMostAt k a b) r
+tells-fails a b g p = (p, rw p (fails-means a b (effect-words a g)))
+
+pub tells-stock-fails : {r : ℕ} (s t : Stock) {vs : List Val} → Is (row stock.the-type) s vs → r ≡ stockFailsOf s t → (r ≡ stockFailsOf s t) × LowestFailing (λ k. BelowAt k s t) r
+tells-stock-fails s t g p = (p, rw p (stock-fails-means s t (stock-words s g)))
 
 pub tells-at-most : {r : Bool} (a b : Effect) {vs : List Val} → Is (row effect.the-type) a vs → r ≡ atMostOf a b → (r ≡ atMostOf a b) × Exactly r (AtMost a b)
 tells-at-most a b g = tells (at-most-at-sound a b) (at-most-at-complete a b (effect-words a g))

@@ -6,11 +6,13 @@ use mathlib.Core.List.{List, [], _∷_}
 use mathlib.Core.Logic.{⊎-elim}
 use native.Mathlib.Omega.{arith}
 use lib.ListN.{getD, length}
+use Rattle.words.specs.Lowest.{lowest}
 use Rattle.single.specs.declared.Held.{Held}
 use Rattle.single.specs.declared.One.{One}
 use Rattle.effect.specs.declared.Stock.{Stock}
 use Rattle.effect.specs.declared.Effect.{Effect}
 use Rattle.effect.specs.Six.{six, among, allSix, oneAt, effectOf, heldAt, stockOf}
+use Rattle.effect.specs.Whole.{lowestNot}
 use Rattle.effect.proofs.Bools.{and-l, and-r, and-i, and-no}
 
 -- a fact at each of the six numbers is a fact at each number below six
@@ -75,6 +77,10 @@ made-stock f a b c d e g h = h ∙ ap stockOf (each-is f a b c d e g)
 
 pub made-test : {r : Bool} (f : ℕ → Bool) {p q u v x y : Bool} → p ≡ f 0 → q ≡ f 1 → u ≡ f 2 → v ≡ f 3 → x ≡ f 4 → y ≡ f 5 → r ≡ allSix (among p q u v x y) → r ≡ allSix f
 made-test f a b c d e g h = h ∙ ap allSix (each-is f a b c d e g)
+
+pub made-lowest : {r : ℕ} (f : ℕ → Bool) {p q u v x y : Bool} → p ≡ f 0 → q ≡ f 1 → u ≡ f 2 → v ≡ f 3 → x ≡ f 4 → y ≡ f 5 → r ≡ lowestNot (among p q u v x y) → r ≡ lowestNot f
+unfolding lowest
+made-lowest f a b c d e g h = h ∙ ap lowestNot (each-is f a b c d e g)
 
 -- a stock, and an effect, of six types and no more
 abbrev pub SixHeld : Stock → Type 0

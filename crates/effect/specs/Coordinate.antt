@@ -12,6 +12,11 @@ pub data Coordinate : Type 0 where
   right : (k b : ℕ) → k < 6 → b < 16 → Coordinate
   count : (k : ℕ) → k < 6 → Coordinate
 
+-- the type that it belongs to
+abbrev pub typeOf : Coordinate → ℕ
+typeOf (right k _ _ _) = k
+typeOf (count k _) = k
+
 unfoldable pub at : Coordinate → Stock → ℕ
 at (right k b _ _) s = bit b (getD (s .rights) k 0)
 at (count k _) s = counted (getD (s .counts) k 0)

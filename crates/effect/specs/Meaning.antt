@@ -11,7 +11,7 @@ use Rattle.effect.specs.declared.Stock.{Stock}
 use Rattle.effect.specs.declared.Effect.{Effect}
 use Rattle.effect.specs.Six.{six, oneAt}
 use Rattle.effect.specs.Apply.{applyOf}
-use Rattle.effect.specs.Coordinate.{bit, Coordinate, at}
+use Rattle.effect.specs.Coordinate.{bit, Coordinate, typeOf, at}
 
 -- one stock is at most another: no right that the other has not, and no larger count
 abbrev pub Below : Stock → Stock → Type 0
@@ -20,6 +20,20 @@ Below s t = (i : Coordinate) → at i s ≤ at i t
 -- "One effect is at most another if its result is at most the other's for every stock."
 abbrev pub AtMost : Effect → Effect → Type 0
 AtMost a b = (s : Stock) → Below (applyOf a s) (applyOf b s)
+
+-- the same of one type alone
+abbrev pub BelowAt : ℕ → Stock → Stock → Type 0
+BelowAt k s t = (i : Coordinate) → typeOf i ≡ k → at i s ≤ at i t
+
+abbrev pub AtMostAt : ℕ → Effect → Effect → Type 0
+AtMostAt k a b = (s : Stock) → BelowAt k (applyOf a s) (applyOf b s)
+
+-- "Comparing two stocks or effects shall name the lowest type that fails"; 6 where none does. There is no second (`one-lowest` in
+-- proofs/Failing.antt).
+pub record LowestFailing (Holds : ℕ → Type 0) (r : ℕ) : Type 0 where
+  pub within : r ≤ 6
+  pub below : (k : ℕ) → k < r → Holds k
+  pub fails : r < 6 → Holds r → ⊥
 
 -- six numbers with v for the one of type t
 unfoldable pub with-at : ℕ → ℕ → List ℕ → List ℕ

@@ -1,8 +1,9 @@
 -- The operations on stocks and effects: at each type, the formulas of `single`. A type above 5 is never covered, and to grant
 -- or draw it does nothing.
 use Prim.Native.Nat.{ℕ}
-use mathlib.Core.Bool.{Bool, _&&_}
+use mathlib.Core.Bool.{Bool, _&&_, not}
 use lib.Dec.{ltb, eqb}
+use Rattle.words.specs.Lowest.{lowest}
 use Rattle.single.specs.Single.{idle}
 use Rattle.single.specs.Formulas.{normalOne, drawn, granted, thenOne, bothOne, atMostOne, heldAtMost, lowerHeld, coversHeld}
 use Rattle.effect.specs.declared.Stock.{Stock}
@@ -34,6 +35,16 @@ atMostOf a b = allSix (λ k. atMostOne (oneAt a k) (oneAt b k))
 
 unfoldable pub stockAtMostOf : Stock → Stock → Bool
 stockAtMostOf s t = allSix (λ k. heldAtMost (heldAt s k) (heldAt t k))
+
+-- the lowest type at which a test fails, and 6 where it fails at none
+abbrev pub lowestNot : (ℕ → Bool) → ℕ
+lowestNot f = lowest (λ k. not (f k)) 6
+
+unfoldable pub failsOf : Effect → Effect → ℕ
+failsOf a b = lowestNot (λ k. atMostOne (oneAt a k) (oneAt b k))
+
+unfoldable pub stockFailsOf : Stock → Stock → ℕ
+stockFailsOf s t = lowestNot (λ k. heldAtMost (heldAt s k) (heldAt t k))
 
 unfoldable pub lowerOf : Stock → Stock → Stock
 lowerOf s t = stockOf (λ k. lowerHeld (heldAt s k) (heldAt t k))

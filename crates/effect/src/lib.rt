@@ -7,9 +7,9 @@ ghost use lib.Dec.{eqb};
 ghost use Rattle.single.specs.Single.{applyOne};
 ghost use Rattle.single.specs.Formulas.{normalOne, thenOne, bothOne, atMostOne, heldAtMost, lowerHeld};
 ghost use Rattle.effect.specs.Six.{allSix, among, heldAt, stockOf, oneAt, effectOf};
-ghost use Rattle.effect.specs.Whole.{normalOf, nothingDone, oneIf, drawOf, grantOf, applyOf, thenOf, bothOf, atMostOf, stockAtMostOf, lowerOf, coversOf};
+ghost use Rattle.effect.specs.Whole.{lowestNot, normalOf, nothingDone, oneIf, drawOf, grantOf, applyOf, thenOf, bothOf, atMostOf, stockAtMostOf, failsOf, stockFailsOf, lowerOf, coversOf};
 ghost use Rattle.effect.specs.Coordinate.{Coordinate, at};
-ghost use Rattle.effect.specs.Meaning.{Below, AtMost, replaced, oneTaken, Covers, Normal, Leaves, Exactly};
+ghost use Rattle.effect.specs.Meaning.{Below, AtMost, BelowAt, AtMostAt, LowestFailing, replaced, oneTaken, Covers, Normal, Leaves, Exactly};
 
 pub struct Stock {
     pub rights: [u16; 6],
@@ -82,6 +82,31 @@ fn all_six(p: bool, q: bool, r: bool, s: bool, t: bool, u: bool) -> bool
     ensures { λ x. ⌜ x ≡ allSix (among p q r s t u) ⌝ }
 {
     p & (q & (r & (s & (t & u))))
+}
+
+// The lowest of the six that does not hold, or 6.
+fn lowest_not(p: bool, q: bool, r: bool, s: bool, t: bool, u: bool) -> usize
+    ensures { λ x. ⌜ x ≡ lowestNot (among p q r s t u) ⌝ }
+{
+    if !p {
+        return 0;
+    }
+    if !q {
+        return 1;
+    }
+    if !r {
+        return 2;
+    }
+    if !s {
+        return 3;
+    }
+    if !t {
+        return 4;
+    }
+    if !u {
+        return 5;
+    }
+    6
 }
 
 fn normal_at(e: Effect, k: usize) -> bool
@@ -240,12 +265,12 @@ pub fn both(a: Effect, b: Effect) -> Effect
     )
 }
 
-// One effect leaves at most what another leaves, of every stock.
-pub fn at_most(a: Effect, b: Effect) -> bool
-    ensures equals { λ r. ⌜ r ≡ atMostOf a b ⌝ }
-    ensures means { λ r. ⌜ Exactly r (AtMost a b) ⌝ }
+// The lowest type at which one effect leaves more than another, of some stock, or 6.
+pub fn fails(a: Effect, b: Effect) -> usize
+    ensures equals { λ r. ⌜ r ≡ failsOf a b ⌝ }
+    ensures means { λ r. ⌜ LowestFailing (λ k. AtMostAt k a b) r ⌝ }
 {
-    all_six(
+    lowest_not(
         at_most_at(a, b, 0),
         at_most_at(a, b, 1),
         at_most_at(a, b, 2),
@@ -255,12 +280,12 @@ pub fn at_most(a: Effect, b: Effect) -> bool
     )
 }
 
-// One stock is at most another, at every type.
-pub fn stock_at_most(s: Stock, t: Stock) -> bool
-    ensures equals { λ r. ⌜ r ≡ stockAtMostOf s t ⌝ }
-    ensures means { λ r. ⌜ Exactly r (Below s t) ⌝ }
+// The lowest type at which one stock is not at most another, or 6.
+pub fn stock_fails(s: Stock, t: Stock) -> usize
+    ensures equals { λ r. ⌜ r ≡ stockFailsOf s t ⌝ }
+    ensures means { λ r. ⌜ LowestFailing (λ k. BelowAt k s t) r ⌝ }
 {
-    all_six(
+    lowest_not(
         stock_at_most_at(s, t, 0),
         stock_at_most_at(s, t, 1),
         stock_at_most_at(s, t, 2),
@@ -268,6 +293,22 @@ pub fn stock_at_most(s: Stock, t: Stock) -> bool
         stock_at_most_at(s, t, 4),
         stock_at_most_at(s, t, 5),
     )
+}
+
+// One effect leaves at most what another leaves, of every stock.
+pub fn at_most(a: Effect, b: Effect) -> bool
+    ensures equals { λ r. ⌜ r ≡ atMostOf a b ⌝ }
+    ensures means { λ r. ⌜ Exactly r (AtMost a b) ⌝ }
+{
+    fails(a, b) == 6
+}
+
+// One stock is at most another, at every type.
+pub fn stock_at_most(s: Stock, t: Stock) -> bool
+    ensures equals { λ r. ⌜ r ≡ stockAtMostOf s t ⌝ }
+    ensures means { λ r. ⌜ Exactly r (Below s t) ⌝ }
+{
+    stock_fails(s, t) == 6
 }
 
 // The smaller of two stocks, right by right and count by count.

@@ -1,26 +1,17 @@
 use borrow.Author.Needs.{needs}
-use Rattle.single.specs.Formulas.{atMostOne}
-use Rattle.effect.specs.Six.{oneAt}
-use Rattle.effect.specs.Whole.{atMostOf}
-use Rattle.effect.proofs.Six.{made-test}
+use Prim.Native.Nat.{ℕ}
+use mathlib.Core.Path.{_∙_, ap}
+use lib.Dec.{eqb}
+use Rattle.effect.proofs.Failing.{fails-none}
 use Rattle.effect.proofs.Means.{tells-at-most}
 use Rattle.effect.proofs.at_most.Statement.{statement}
 use Rattle.effect.proofs.at_most.Tie as tie
 
 returns : tie.Need-returns
-unfolding atMostOf
 returns c =
-    let s = c .before .before .before .before .before .before .before in
+    let s = c .before in
     let a = s .args in
-    tells-at-most (a .a) (a .b) (s .good .0)
-    (made-test (λ k. atMostOne (oneAt (a .a) k) (oneAt (a .b) k))
-    (c .before .before .before .before .before .before .at-most-at .ensures)
-    (c .before .before .before .before .before .at-most-at2 .ensures)
-    (c .before .before .before .before .at-most-at3 .ensures)
-    (c .before .before .before .at-most-at4 .ensures)
-    (c .before .before .at-most-at5 .ensures)
-    (c .before .at-most-at6 .ensures)
-    (c .all-six .ensures))
+    tells-at-most (a .a) (a .b) (s .good .0) (ap (λ (n : ℕ). eqb n 6) (c .fails .ensures .0) ∙ fails-none (a .a) (a .b))
 
 pub at-most-spec : {M : Type 1} → statement M
-at-most-spec = tie.close (tie.spec (λ c κs. search needs) (λ c κs. search needs) (λ c κs. search needs) (λ c κs. search needs) (λ c κs. search needs) (λ c κs. search needs) (λ c κs. search needs) returns)
+at-most-spec = tie.close (tie.spec (λ c κs. search needs) returns)
