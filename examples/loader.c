@@ -79,6 +79,18 @@ static struct meaning meaning_of(unsigned number)
     return answers[number];
 }
 
+/* What the answer names: a place, and beside it a type of resource. */
+static void print_named(uint64_t answer, const char *place)
+{
+    unsigned number = SNELLAIR_NUMBER(answer), type = SNELLAIR_TYPE(answer);
+    printf(" (%s %lu", place, SNELLAIR_PLACE(answer));
+    if (number == SNELLAIR_BROKEN_RULE && type == SNELLAIR_MARKS_ALONE)
+        printf(", marks alone");
+    else if (number == SNELLAIR_BROKEN_RULE || number == SNELLAIR_OVERDRAWN)
+        printf(", type %u", type);
+    printf(")");
+}
+
 /* Says the answer in words, where `pass` is what 0 says, and gives the exit
  * status. */
 static int report(uint64_t answer, const char *pass)
@@ -87,7 +99,7 @@ static int report(uint64_t answer, const char *pass)
     struct meaning meaning = meaning_of(number);
     printf("%u: %s", number, number == SNELLAIR_PASS ? pass : meaning.says);
     if (meaning.place != NULL)
-        printf(" (%s %lu)", meaning.place, SNELLAIR_PLACE(answer));
+        print_named(answer, meaning.place);
     printf("\n");
     if (number == SNELLAIR_PASS)
         return 0;

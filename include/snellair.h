@@ -62,7 +62,7 @@ uint64_t snellair_one_shot(const uint8_t *graph, size_t graph_len);
  * nothing of whether its permits suffice. */
 uint64_t snellair_session(const uint8_t *graph, size_t graph_len);
 
-/* The parts of an answer. Type and line are 0 in this release. */
+/* The parts of an answer. The line is 0 in this release. */
 #define SNELLAIR_NUMBER(answer) ((unsigned)((answer) & 0xFFu))
 #define SNELLAIR_TYPE(answer) ((unsigned)((answer) >> 8 & 0xFFu))
 #define SNELLAIR_PLACE(answer) ((unsigned long)((answer) >> 16 & 0xFFFFFFu))
@@ -71,7 +71,10 @@ uint64_t snellair_session(const uint8_t *graph, size_t graph_len);
 /* The numbers, and what the place tells. 0 and 13 are verdicts, the others
  * refusals; 11 and 12 come from check only, 14 from the profiles only, 26 from
  * the listing only. The first that applies is given: 26, then 1 to 8, 17, 9,
- * then 10 to 14, and 0 where none does; within a table the lowest row. */
+ * then 10 to 14, and 0 where none does; within a table the lowest row.
+ * 12 and 13 also name a type: 13 that of the draw, 12 the lowest that fails in
+ * any place where that rule is broken, or SNELLAIR_MARKS_ALONE when marks are
+ * all that is missing. All others have type 0. */
 enum snellair_number {
     SNELLAIR_PASS = 0,         /* 0 */
     SNELLAIR_TOO_SHORT = 1,    /* 0: fewer than 14 bytes */
@@ -92,6 +95,8 @@ enum snellair_number {
     SNELLAIR_OUTPUT_SHORT = 26 /* 0: the output's length */
 };
 
+#define SNELLAIR_MARKS_ALONE 6u
+
 /* The limits: most methods, nodes and types; the longest graph file and the
  * longest sheet, in bytes; room for any listing and the 0 behind it. */
 #define SNELLAIR_MOST_METHODS 64u
@@ -102,7 +107,7 @@ enum snellair_number {
     SNELLAIR_SHEET_BYTES(SNELLAIR_MOST_METHODS, SNELLAIR_MOST_NODES, \
                          SNELLAIR_MOST_TYPES)
 
-#define SNELLAIR_LISTING_ROOM 46095u
+#define SNELLAIR_LISTING_ROOM 46097u
 
 /* The bytes of the sheet of a graph with so many methods, nodes and types:
  * the first, second and sixth count of its trailer. */

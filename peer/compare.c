@@ -1,6 +1,7 @@
 /* Compares Snellair with the peer on generated cases: packed answers and all
  * bytes lent. Takes a seed and a number of cases; ends with status 1 at the
  * first difference, or if too few graphs came to a verdict. */
+#include "answer.h"
 #include "generate.h"
 #include "peer.h"
 #include "snellair.h"
@@ -49,12 +50,19 @@ static bool blame(const struct one_case *c, const char *operation,
     return false;
 }
 
+static void print_answer(const char *whose, uint64_t answer)
+{
+    printf("%s %u, type %u, at %u", whose, number_in(answer), type_in(answer),
+           place_in(answer));
+}
+
 static void print_difference(const struct one_case *c, const char *operation,
                              uint64_t ours, uint64_t theirs)
 {
     print_case(c, operation);
-    printf("snellair %" PRIu64 " at %" PRIu64 ", peer %" PRIu64 " at %" PRIu64
-           "\n", theirs & 0xFFFF, theirs >> 16, ours & 0xFFFF, ours >> 16);
+    print_answer("snellair", theirs);
+    print_answer("; peer", ours);
+    printf("\n");
     for (size_t i = 0; i < c->sheet_len + 2 * MARGIN; i++)
         if (c->ours[i] != c->theirs[i]) {
             printf("first byte that differs, from the sheet's start: %ld\n",
@@ -207,8 +215,7 @@ static bool compare_case(struct one_case *c, struct tallies *tallies)
     struct random r = random_of(c->seed, c->number);
     uint8_t worked[MOST_SHEET_BYTES];
     make_graph(&r, c);
-    struct shape s = draft_shape(&c->draft);
-    size_t right = sheet_bytes(s);
+    size_t right = sheet_bytes(draft_shape(&c->draft));
     random_fill(&r, c->ours, right + MOST_ADDED + 2 * MARGIN);
     if (!compare_work_out(c, generate_wrong_length(&r, right),
                           &tallies->wrong_length)
@@ -216,7 +223,7 @@ static bool compare_case(struct one_case *c, struct tallies *tallies)
         return false;
     memcpy(worked, c->ours + MARGIN, right);
     for (unsigned i = 0; i < 2 * SHEET_KINDS; i++) {
-        size_t length = generate_sheet(&r, i % SHEET_KINDS, s, worked,
+        size_t length = generate_sheet(&r, i % SHEET_KINDS, &c->draft, worked,
                                        c->ours + MARGIN);
         if (!compare_check(c, length, &tallies->check))
             return false;

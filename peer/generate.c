@@ -96,7 +96,7 @@ static void add_node(struct random *r, const struct sizes *most,
                      struct draft *d, unsigned method, bool goes_on)
 {
     unsigned type = random_below(r, d->types);
-    switch (random_below(r, goes_on ? 12 : 14)) {
+    switch (random_below(r, goes_on ? 12 : 16)) {
     case 0:
     case 1:
         draft_node(d, method, PLAIN);
@@ -119,10 +119,10 @@ static void add_node(struct random *r, const struct sizes *most,
         draft_call(d, method, random_repeats(r, most));
         break;
     case 12:
-        draft_throw(d, method, random_exception(r));
+        draft_node(d, method, RETURN);
         break;
     default:
-        draft_node(d, method, RETURN);
+        draft_throw(d, method, random_exception(r));
     }
 }
 
@@ -559,34 +559,48 @@ static unsigned next_smaller_drop(unsigned drop)
     return drop == 0 || drop == NO_DROP ? NO_DROP : drop - 1;
 }
 
-/* One step up or down in one part of a normal effect. */
-static struct effect nudge(struct random *r, struct effect e)
+/* One step up in one part of a normal effect. */
+static struct effect step_up(struct random *r, struct effect e)
 {
     unsigned bit = 1u << random_below(r, 16);
-    switch (random_below(r, 6)) {
+    switch (random_below(r, 3)) {
     case 0:
-        e.cap -= e.cap > 0 ? 1 : 0;
-        break;
-    case 1:
         e.cap += e.cap < ENDLESS ? 1 : 0;
         break;
-    case 2:
-        e.drop = e.drop == NO_DROP ? 0 : drop_of(e.drop + 1);
-        break;
-    case 3:
+    case 1:
         e.drop = next_smaller_drop(e.drop);
-        break;
-    case 4:
-        e.keep_max &= ~bit;
-        e.keep_in &= ~bit;
         break;
     default:
         e.keep_in |= one_in(r, 2) ? bit & e.keep_max : 0;
         e.keep_max |= bit;
     }
+    return e;
+}
+
+static struct effect step_down(struct random *r, struct effect e)
+{
+    unsigned bit = 1u << random_below(r, 16);
+    switch (random_below(r, 3)) {
+    case 0:
+        e.cap -= e.cap > 0 ? 1 : 0;
+        break;
+    case 1:
+        e.drop = e.drop == NO_DROP ? 0 : drop_of(e.drop + 1);
+        break;
+    default:
+        e.keep_max &= ~bit;
+        e.keep_in &= ~bit;
+    }
     if (e.cap == 0)
         e.drop = NO_DROP;
     return e;
+}
+
+static struct effect alter_effect(struct random *r, struct effect e)
+{
+    if (one_in(r, 6))
+        return lowest();
+    return one_in(r, 2) ? step_up(r, e) : step_down(r, e);
 }
 
 static void alter_block(struct random *r, struct shape s, uint8_t *sheet)
@@ -598,13 +612,107 @@ static void alter_block(struct random *r, struct shape s, uint8_t *sheet)
         for (unsigned t = 0; t < s.types; t++)
             e.of[t] = one_in(r, 2) ? lowest() : nothing_done();
     } else if (one_in(r, 6)) {
-        memset(sheet + 2 * block_at(s, block), 0,
-               2 * (1 + (size_t)block_words(s, block)));
+        blank_block(s, sheet, block);
         return;
     } else {
-        e.of[type] = one_in(r, 6) ? lowest() : nudge(r, e.of[type]);
+        e.of[type] = alter_effect(r, e.of[type]);
     }
     write_block(s, sheet, block, &e);
+}
+
+/* In one type, or in several. */
+static void raise_block(struct random *r, struct shape s, uint8_t *sheet,
+                        unsigned block)
+{
+    struct effects e;
+    if (!read_block(s, sheet, block, &e))
+        return;
+    do {
+        struct effect *one = &e.of[random_below(r, s.types)];
+        *one = one_in(r, 3) ? grant(ALL_RIGHTS, ENDLESS) : step_up(r, *one);
+    } while (one_in(r, 2));
+    write_block(s, sheet, block, &e);
+}
+
+/* Any row that leaves a node of the kind that the rule is about, a call for
+ * rules 7 and 9 and another for 3 and 4; or any row if there is none. */
+static const uint16_t *row_for(struct random *r, const struct draft *d,
+                               const struct draft_rows *rows, unsigned rule)
+{
+    unsigned row = random_below(r, rows->count);
+    for (unsigned i = 0; i < rows->count; i++) {
+        if ((d->node[rows->row[row][0]].kind == CALL) == (rule >= 7))
+            break;
+        row = (row + 1) % rows->count;
+    }
+    return rows->row[row];
+}
+
+/* A block that this rule may lead to; another if the graph has none. */
+static unsigned target_of(struct random *r, const struct draft *d,
+                          unsigned rule)
+{
+    struct shape s = draft_shape(d);
+    const struct draft_node *call = &d->node[any_of_kind(r, d, CALL)];
+    const struct draft_node *end = &d->node[any_of_kind(r, d, RETURN)];
+    const struct draft_node *thrown = &d->node[any_of_kind(r, d, THROW)];
+    switch (rule) {
+    case 2:
+        return node_block(s, d->entry[random_below(r, d->methods)]);
+    case 3:
+    case 7:
+        if (d->flow.count > 0)
+            return node_block(s, row_for(r, d, &d->flow, rule)[1]);
+        break;
+    case 4:
+    case 9:
+        if (d->catches.count > 0)
+            return node_block(s, row_for(r, d, &d->catches, rule)[2]);
+        break;
+    case 5:
+        return exit_block(end->method, 0);
+    case 6:
+        return exit_block(thrown->method, 1 + thrown->number);
+    case 8:
+        if (d->calls.count > 0)
+            return stock_block(row_for(r, d, &d->calls, rule)[1]);
+        break;
+    case 10:
+        return exit_block(call->method, 1 + thrown->number);
+    default:
+        break;
+    }
+    return stock_block(0);
+}
+
+/* One that has its mark, if a few tries find it. */
+static unsigned marked_target_of(struct random *r, const struct draft *d,
+                                 const uint8_t *sheet, unsigned rule)
+{
+    struct effects e;
+    unsigned block = target_of(r, d, rule);
+    for (unsigned tries = 8; tries > 0; tries--) {
+        if (read_block(draft_shape(d), sheet, block, &e))
+            break;
+        block = target_of(r, d, rule);
+    }
+    return block;
+}
+
+/* Mostly of one rule, so that it is broken in several places. */
+static void alter_targets(struct random *r, enum sheet_kind kind,
+                          const struct draft *d, uint8_t *sheet)
+{
+    unsigned rule = 1 + random_below(r, RULES);
+    for (unsigned targets = 1 + random_below(r, 6); targets > 0; targets--) {
+        unsigned block = marked_target_of(r, d, sheet, rule);
+        if (kind == MARKS_TAKEN || (kind == RAISED_AND_TAKEN && one_in(r, 2)))
+            blank_block(draft_shape(d), sheet, block);
+        else
+            raise_block(r, draft_shape(d), sheet, block);
+        if (one_in(r, 6))
+            rule = 1 + random_below(r, RULES);
+    }
 }
 
 static void mark_all_lowest(struct shape s, uint8_t *sheet)
@@ -622,9 +730,11 @@ size_t generate_wrong_length(struct random *r, size_t length)
                         : length + 1 + random_below(r, MOST_ADDED);
 }
 
-size_t generate_sheet(struct random *r, enum sheet_kind kind, struct shape s,
-                      const uint8_t *given, uint8_t *sheet)
+size_t generate_sheet(struct random *r, enum sheet_kind kind,
+                      const struct draft *d, const uint8_t *given,
+                      uint8_t *sheet)
 {
+    struct shape s = draft_shape(d);
     size_t length = sheet_bytes(s);
     memcpy(sheet, given, length);
     switch (kind) {
@@ -634,6 +744,11 @@ size_t generate_sheet(struct random *r, enum sheet_kind kind, struct shape s,
     case BLOCKS_ALTERED:
         for (unsigned blocks = 1 + random_below(r, 3); blocks > 0; blocks--)
             alter_block(r, s, sheet);
+        break;
+    case TARGETS_RAISED:
+    case MARKS_TAKEN:
+    case RAISED_AND_TAKEN:
+        alter_targets(r, kind, d, sheet);
         break;
     case LOWEST:
         mark_all_lowest(s, sheet);

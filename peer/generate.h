@@ -50,8 +50,11 @@ size_t generate_damage(struct random *r, const struct draft *d, uint8_t *graph,
 enum sheet_kind {
     AS_GIVEN,
     WORD_ALTERED,
-    BLOCKS_ALTERED, /* into well-formed ones, lower or higher */
-    LOWEST,         /* everything marked with nothing left; obeys all rules */
+    BLOCKS_ALTERED,   /* into well-formed ones, lower or higher */
+    TARGETS_RAISED,   /* blocks that one rule leads to, each in several types */
+    MARKS_TAKEN,      /* from such blocks */
+    RAISED_AND_TAKEN, /* some of them raised, some without their mark */
+    LOWEST,           /* everything marked with nothing left; obeys all rules */
     BLANK,
     ANY_BYTES,
     WRONG_LENGTH,
@@ -61,9 +64,10 @@ enum sheet_kind {
 /* Any other length than this one, shorter or up to MOST_ADDED longer. */
 size_t generate_wrong_length(struct random *r, size_t length);
 
-/* Makes a sheet of this kind from a well-formed one and answers its length,
- * at most MOST_SHEET_BYTES + MOST_ADDED. */
-size_t generate_sheet(struct random *r, enum sheet_kind kind, struct shape s,
-                      const uint8_t *given, uint8_t *sheet);
+/* Makes a sheet of this kind from the well-formed one given for a graph, and
+ * answers its length, at most MOST_SHEET_BYTES + MOST_ADDED. */
+size_t generate_sheet(struct random *r, enum sheet_kind kind,
+                      const struct draft *d, const uint8_t *given,
+                      uint8_t *sheet);
 
 #endif

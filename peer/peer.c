@@ -1,16 +1,12 @@
 #include "peer.h"
 
+#include "answer.h"
 #include "effect.h"
 #include "format.h"
 #include "sheet.h"
 
 #include <stdbool.h>
 #include <string.h>
-
-static uint64_t answer(unsigned number, unsigned place)
-{
-    return number + 65536 * (uint64_t)place;
-}
 
 /* ---- The graph file ---- */
 
@@ -185,19 +181,19 @@ static uint64_t judge_trailer(struct graph *g, const uint8_t *bytes,
                                           MOST_CALLS, MOST_CATCHES, MOST_TYPES};
     size_t distance = 0;
     if (length < TRAILER_BYTES)
-        return answer(1, 0);
+        return packed(1, 0);
     const uint8_t *trailer = bytes + length - TRAILER_BYTES;
     g->bytes = bytes;
     for (unsigned t = 0; t < TABLES; t++) {
         g->count[t] = read_word(trailer + 2 * t);
         if (g->count[t] < fewest[t] || g->count[t] > most[t])
-            return answer(2, t);
+            return packed(2, t);
         g->start[t] = distance;
         distance += g->count[t] * (size_t)row_bytes[t];
     }
     if (read_word(trailer + 2 * TABLES) != distance
         || length != distance + TRAILER_BYTES)
-        return answer(3, 0);
+        return packed(3, 0);
     return 0;
 }
 
@@ -208,7 +204,7 @@ static uint64_t judge_table(const struct graph *g, enum table t)
         bad_entry, bad_node, bad_flow, bad_call, bad_catch, bad_opening};
     for (unsigned row = 0; row < g->count[t]; row++)
         if (bad[t](g, row))
-            return answer(4 + t, row);
+            return packed(4 + t, row);
     return 0;
 }
 
@@ -230,7 +226,7 @@ static uint64_t judge_calls_to_nobody(const struct graph *g)
     for (unsigned node = 0; node < g->count[NODES]; node++) {
         struct rows calls = rows_of(g, CALLS, node);
         if (kind_of(g, node) == CALL && calls.first == calls.end)
-            return answer(17, node);
+            return packed(17, node);
     }
     return 0;
 }
@@ -256,7 +252,7 @@ static uint64_t judge(struct graph *g, const uint8_t *bytes, size_t length,
 {
     uint64_t refusal = judge_file(g, bytes, length);
     if (refusal == 0 && sheet_len != sheet_bytes(g->shape))
-        return answer(10, 0);
+        return packed(10, 0);
     return refusal;
 }
 
@@ -269,17 +265,20 @@ static void then_all(const struct graph *g, struct effects *result,
         result->of[t] = then(first->of[t], second->of[t]);
 }
 
-/* Whether a block has mark 1 and is at most this. */
-static bool obeys(const struct graph *g, const uint8_t *sheet, unsigned block,
-                  const struct effects *most)
+enum { NOTHING_FAILS = MARK_MISSING + 1 };
+
+/* What is asked of a block is "mark 1 and at most this": the lowest type in
+ * which it is more. One that lacks its mark is not compared. */
+static unsigned failing_type(const struct graph *g, const uint8_t *sheet,
+                             unsigned block, const struct effects *most)
 {
     struct effects e;
     if (!read_block(g->shape, sheet, block, &e))
-        return false;
+        return MARK_MISSING;
     for (unsigned t = 0; t < g->shape.types; t++)
         if (!at_most(e.of[t], most->of[t]))
-            return false;
-    return true;
+            return t;
+    return NOTHING_FAILS;
 }
 
 static struct effect step_of(const struct graph *g, unsigned node)
@@ -473,7 +472,7 @@ static uint64_t verdict(const struct graph *g, const uint8_t *sheet)
             continue;
         unsigned t = number_of(g, node);
         if (!covers(then(stock.of[t], e.of[t]), rights_of(g, node)))
-            return answer(13, node);
+            return packed_type(13, t, node);
     }
     return 0;
 }
@@ -485,7 +484,7 @@ static bool lower(const struct graph *g, uint8_t *sheet, unsigned block,
                   const struct effects *most)
 {
     struct effects now;
-    if (obeys(g, sheet, block, most))
+    if (failing_type(g, sheet, block, most) == NOTHING_FAILS)
         return false;
     if (!read_block(g->shape, sheet, block, &now)) {
         write_block(g->shape, sheet, block, most);
@@ -664,27 +663,34 @@ static bool is_ill_formed(const struct graph *g, const uint8_t *sheet,
 struct tester {
     const struct graph *graph;
     const uint8_t *sheet;
-    unsigned lowest_broken; /* 0 while no rule is broken */
+    unsigned rule; /* the lowest broken one, above RULES while there is none */
+    unsigned type; /* the lowest that fails in any place where it is broken */
 };
 
+/* MARK_MISSING is above all types, so it stays only where marks alone are
+ * missing. */
 static void test(void *taker, unsigned rule, unsigned block,
                  const struct effects *most)
 {
     struct tester *t = taker;
-    if (t->lowest_broken != 0 && t->lowest_broken <= rule)
+    if (rule > t->rule)
         return;
-    if (!obeys(t->graph, t->sheet, block, most))
-        t->lowest_broken = rule;
+    unsigned type = failing_type(t->graph, t->sheet, block, most);
+    if (type == NOTHING_FAILS || (rule == t->rule && type >= t->type))
+        return;
+    t->rule = rule;
+    t->type = type;
 }
 
-static unsigned lowest_broken_rule(const struct graph *g, const uint8_t *sheet)
+/* Answers 12 and 0. */
+static uint64_t judge_rules(const struct graph *g, const uint8_t *sheet)
 {
-    struct tester t = {g, sheet, 0};
+    struct tester t = {g, sheet, RULES + 1, NOTHING_FAILS};
     struct desk d = {g, sheet, test, &t};
     say_beginnings(&d);
     for (unsigned node = 0; node < g->count[NODES]; node++)
         say_node(&d, node);
-    return t.lowest_broken;
+    return t.rule > RULES ? 0 : packed_type(12, t.type, t.rule);
 }
 
 uint64_t peer_check(const uint8_t *graph, size_t graph_len,
@@ -696,11 +702,9 @@ uint64_t peer_check(const uint8_t *graph, size_t graph_len,
         return refusal;
     for (unsigned block = 0; block < block_count(g.shape); block++)
         if (is_ill_formed(&g, sheet, block))
-            return answer(11, block_at(g.shape, block));
-    unsigned rule = lowest_broken_rule(&g, sheet);
-    if (rule != 0)
-        return answer(12, rule);
-    return verdict(&g, sheet);
+            return packed(11, block_at(g.shape, block));
+    uint64_t broken = judge_rules(&g, sheet);
+    return broken != 0 ? broken : verdict(&g, sheet);
 }
 
 /* ---- Profiles ---- */
@@ -759,7 +763,7 @@ static uint64_t judge_profile(const uint8_t *graph, size_t graph_len,
     find(&g, unfit);
     for (unsigned node = 0; node < g.count[NODES]; node++)
         if (unfit[node])
-            return answer(14, node);
+            return packed(14, node);
     return 0;
 }
 

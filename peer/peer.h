@@ -2,7 +2,7 @@
  * readings of them that docs/DECISIONS.md keeps, with the packed answer and the
  * order of a block's words as in docs/FORMAT.md, and without a look at
  * Snellair's code.
- * Each operation answers number + 65,536 * place. */
+ * Each operation gives a packed answer (answer.h). */
 #ifndef PEER_H
 #define PEER_H
 

@@ -8,10 +8,14 @@
 #include "effect.h"
 #include "format.h"
 
+#include <string.h>
+
 enum {
     EXITS = 1 + EXCEPTIONS,
     METHOD_BLOCKS = 1 + EXITS,
-    MOST_BLOCKS = MOST_METHODS * METHOD_BLOCKS + MOST_NODES
+    MOST_BLOCKS = MOST_METHODS * METHOD_BLOCKS + MOST_NODES,
+    RULES = 10,
+    MARK_MISSING = MOST_TYPES /* answer 12's type where no type fails */
 };
 
 /* Of a sheet for a file with these counts. */
@@ -112,6 +116,13 @@ static inline void write_block(struct shape s, uint8_t *sheet, unsigned block,
         write_word(at + 4, e->of[t].cap);
         write_word(at + 6, e->of[t].drop);
     }
+}
+
+/* Takes the mark, and with it the words. */
+static inline void blank_block(struct shape s, uint8_t *sheet, unsigned block)
+{
+    memset(sheet + 2 * (size_t)block_at(s, block), 0,
+           2 * (1 + (size_t)block_words(s, block)));
 }
 
 #endif

@@ -1,9 +1,12 @@
 /* Tests the peer alone: effects against their meaning, document 01's figures,
- * profiles, one engine against the other, check against work out, and the
- * worked-out sheet against runs. Ends with status 1 at the first thing that fails. */
+ * profiles, one engine against the other, check against work out and against
+ * the rules word by word, and the worked-out sheet against runs. Ends with
+ * status 1 at the first thing that fails. */
+#include "answer.h"
 #include "effect.h"
 #include "generate.h"
 #include "peer.h"
+#include "rules.h"
 #include "runs.h"
 #include "tally.h"
 
@@ -25,14 +28,9 @@ static void expect(bool holds, const char *what, uint64_t number)
     exit(1);
 }
 
-static uint64_t packed(unsigned number, unsigned place)
-{
-    return number + ((uint64_t)place << 16);
-}
-
 static bool is_verdict(uint64_t answer)
 {
-    return answer == 0 || (answer & 0xFF) == 13;
+    return answer == 0 || number_in(answer) == 13;
 }
 
 /* ---- Effects ---- */
@@ -344,7 +342,7 @@ static void test_refusals(struct draft *d, uint8_t *sheet)
 }
 
 /* What is put at one byte of a file or one word of a sheet, and what is then
- * answered. */
+ * answered, with type 0. */
 struct alteration {
     unsigned at, value, number, place;
 };
@@ -423,6 +421,111 @@ static void test_places_of_check(struct draft *d, uint8_t *sheet)
     expect(check(graph, length, sheet, len) == packed(12, 5), "two rules", 0);
 }
 
+/* Nodes 1 and 2 and the call 3 follow node 0, nodes 4 and 5 follow the call, 6
+ * and 7 handle two exceptions of it, 8 is the return. The method called draws
+ * in type 3. */
+static void draft_places(struct draft *d)
+{
+    static const uint8_t flow[9][2] = {{0, 1}, {0, 2}, {0, 3}, {1, 8}, {3, 4},
+                                       {3, 5}, {9, 10}, {9, 12}, {9, 13}};
+    draft_start(d, MOST_TYPES);
+    unsigned main = draft_method(d), called = draft_method(d);
+    for (unsigned n = 0; n < 9; n++)
+        draft_node(d, main, n == 8 ? RETURN : PLAIN);
+    d->node[3].kind = CALL;
+    d->node[3].count = 3;
+    draft_node(d, called, PLAIN);
+    draft_flow(d, draft_draw(d, called, 3, 0), draft_node(d, called, RETURN));
+    draft_throw(d, called, 2);
+    draft_throw(d, called, 5);
+    draft_callee(d, 3, called);
+    draft_catch(d, 3, 2, 6);
+    draft_catch(d, 3, 5, 7);
+    for (unsigned row = 0; row < 9; row++)
+        draft_flow(d, flow[row][0], flow[row][1]);
+    for (unsigned t = 0; t < MOST_TYPES; t++)
+        d->opening_count[t] = 10;
+}
+
+/* A block raised in one type, or without its mark. */
+struct change {
+    unsigned block, type;
+};
+
+static void change_block(struct shape s, uint8_t *sheet, struct change c)
+{
+    struct effects e;
+    if (c.type == MARK_MISSING) {
+        blank_block(s, sheet, c.block);
+    } else if (read_block(s, sheet, c.block, &e)) {
+        e.of[c.type] = grant(ALL_RIGHTS, ENDLESS);
+        write_block(s, sheet, c.block, &e);
+    }
+}
+
+static void test_types_of_check(struct draft *d, uint8_t *worked)
+{
+    enum { NODE = 2 * METHOD_BLOCKS, STOCK_1 = METHOD_BLOCKS, RETURN_0 = 1 };
+    static const struct {
+        struct change change[2];
+        unsigned rule, type;
+    } altered[] = {
+        /* in one place, and in two */
+        {{{NODE + 1, 4}, {NODE + 1, 1}}, 3, 1},
+        {{{NODE + 1, 4}, {NODE + 2, 1}}, 3, 1},
+        {{{NODE + 1, 1}, {NODE + 2, 4}}, 3, 1},
+        /* a missing mark beside a type, and two of them */
+        {{{NODE + 1, MARK_MISSING}, {NODE + 2, 5}}, 3, 5},
+        {{{NODE + 1, 5}, {NODE + 2, MARK_MISSING}}, 3, 5},
+        {{{NODE + 1, MARK_MISSING}, {NODE + 2, MARK_MISSING}}, 3, MARK_MISSING},
+        /* the lower rule first, whatever the types */
+        {{{NODE + 1, 5}, {RETURN_0, 0}}, 3, 5},
+        {{{NODE + 1, MARK_MISSING}, {RETURN_0, 0}}, 3, MARK_MISSING},
+        {{{NODE + 7, 0}, {NODE + 5, 2}}, 7, 2},
+        {{{0, 5}, {NODE, 0}}, 1, 5},
+        /* the second of two flow rows of a call */
+        {{{NODE + 4, 2}, {NODE + 5, 1}}, 7, 1},
+        {{{NODE + 4, MARK_MISSING}, {NODE + 5, 1}}, 7, 1},
+        /* two exceptions */
+        {{{NODE + 6, 4}, {NODE + 7, 3}}, 9, 3},
+        {{{NODE + 6, 3}, {NODE + 7, 4}}, 9, 3},
+        {{{STOCK_1, 5}, {STOCK_1, 4}}, 8, 4}};
+    uint8_t graph[MOST_GRAPH_BYTES], sheet[ROOM];
+    draft_places(d);
+    struct shape s = draft_shape(d);
+    size_t length = draft_write(d, graph), len = sheet_bytes(s);
+    expect(work_out_draft(d, worked) == 0, "several places", 0);
+    for (unsigned i = 0; i < sizeof altered / sizeof altered[0]; i++) {
+        memcpy(sheet, worked, len);
+        change_block(s, sheet, altered[i].change[0]);
+        change_block(s, sheet, altered[i].change[1]);
+        expect(check(graph, length, sheet, len)
+                   == packed_type(12, altered[i].type, altered[i].rule),
+               "type of 12", i);
+    }
+    /* enough for two rounds, but not for the third */
+    write_word(worked + 2 * (block_at(s, STOCK_1) + 1 + 2 * 3 + 1), 9);
+    expect(check(graph, length, worked, len) == packed_type(12, 3, 8),
+           "rule 8 in the last round", 0);
+    draft_file_a(d, 2, 2);
+    length = draft_write(d, graph);
+    expect(work_out_draft(d, sheet) == 0, "one type", 0);
+    blank_block(draft_shape(d), sheet, NODE + 2);
+    expect(check(graph, length, sheet, sheet_bytes(draft_shape(d)))
+               == packed_type(12, 6, 7), "a mark alone, of one type", 0);
+}
+
+/* The second of two draws is not covered. */
+static void test_type_of_overdrawn(struct draft *d, uint8_t *sheet)
+{
+    draft_start(d, 4);
+    d->opening_count[1] = 1;
+    unsigned m = draft_method(d);
+    draft_flow(d, draft_draw(d, m, 1, 0), draft_draw(d, m, 3, 0));
+    expect(work_out_draft(d, sheet) == 13 + 256 * 3 + 65536 * 1, "type of 13",
+           0);
+}
+
 static uint64_t draw_on_a_loop(struct draft *d, uint8_t *sheet, unsigned count)
 {
     draft_start(d, 1);
@@ -476,6 +579,8 @@ static void test_figures(struct draft *d, uint8_t *sheet)
     test_refusals(d, sheet);
     test_places_of_refusals(d, sheet);
     test_places_of_check(d, sheet);
+    test_types_of_check(d, sheet);
+    test_type_of_overdrawn(d, sheet);
     test_calls_to_nobody(d, sheet);
     expect(draw_on_a_loop(d, sheet, 255) == 0, "loop on endless", 0);
     expect(draw_on_a_loop(d, sheet, 254) == packed(13, 0), "loop on 254", 0);
@@ -483,8 +588,8 @@ static void test_figures(struct draft *d, uint8_t *sheet)
     expect(throw_after_rounds(d, sheet, 2) == packed(13, 1),
            "throw in round 2", 0);
     expect(grant_not_reached(d, sheet) == 0, "unreached grant 0", 0);
-    printf("figures: K1 to K11, the run-only ones, errors that look right, places"
-           " of answers\n");
+    printf("figures: K1 to K11, the run-only ones, errors that look right, "
+           "places and types of answers\n");
 }
 
 /* ---- Profiles ---- */
@@ -627,7 +732,7 @@ static unsigned reached_draws(const struct draft *d, const uint8_t *sheet)
 
 static void test_profiles(unsigned cases, struct draft *d, uint8_t *sheet)
 {
-    struct tally seen[2] = {{{0}}, {{0}}};
+    struct tally seen[2] = {0};
     unsigned long draws = 0;
     test_one_shot_figures(d);
     test_session_figures(d);
@@ -680,15 +785,19 @@ static void test_sheets_of(struct random *r, const struct draft *d,
     struct shape s = draft_shape(d);
     for (unsigned i = 0; i < 3 * SHEET_KINDS; i++) {
         enum sheet_kind kind = i % SHEET_KINDS;
-        size_t sheet_len = generate_sheet(r, kind, s, greatest, sheet);
+        size_t sheet_len = generate_sheet(r, kind, d, greatest, sheet);
         uint64_t answer = check(graph, length, sheet, sheet_len);
+        bool is_broken = number_in(answer) == 12;
         tally_note(seen, answer);
         if (is_verdict(answer))
             expect(is_below(s, sheet, greatest), "obeys, so below", answer);
+        if (is_verdict(answer) || is_broken)
+            expect(lowest_breach(d, sheet) == (is_broken ? answer : 0),
+                   "the rules word by word", answer);
         if (kind == WRONG_LENGTH)
             expect(answer == packed(10, 0), "wrong length", answer);
         if (kind == BLANK)
-            expect(answer == packed(12, 1), "blank", answer);
+            expect(answer == packed_type(12, MARK_MISSING, 1), "blank", answer);
         if (kind == LOWEST)
             expect(is_verdict(answer), "the lowest obeys", answer);
     }
@@ -696,7 +805,7 @@ static void test_sheets_of(struct random *r, const struct draft *d,
 
 static void test_small_graphs(unsigned cases, struct draft *d, uint8_t *sheet)
 {
-    struct tally worked = {{0}}, checked = {{0}};
+    struct tally worked = {0}, checked = {0};
     for (unsigned i = 0; i < cases; i++) {
         struct random r = random_of(SEED + 1, i);
         generate_graph(&r, &small, d);
@@ -712,7 +821,7 @@ static void test_small_graphs(unsigned cases, struct draft *d, uint8_t *sheet)
 
 static void test_limit_graphs(unsigned cases, struct draft *d, uint8_t *sheet)
 {
-    struct tally worked = {{0}};
+    struct tally worked = {0};
     for (unsigned i = 0; i < cases; i++) {
         struct random r = random_of(SEED + 2, i);
         generate_limit_graph(&r, d);
@@ -725,7 +834,7 @@ static void test_limit_graphs(unsigned cases, struct draft *d, uint8_t *sheet)
 
 static void test_damaged_files(unsigned cases, struct draft *d, uint8_t *sheet)
 {
-    struct tally worked = {{0}};
+    struct tally worked = {0};
     for (unsigned i = 0; i < cases; i++) {
         struct random r = random_of(SEED + 3, i);
         uint8_t graph[MOST_GRAPH_BYTES + MOST_ADDED];
@@ -763,8 +872,10 @@ static bool agrees_with_runs(const struct draft *d, const uint8_t *sheet,
         if (b->overdrawn && overdrawn == d->nodes)
             overdrawn = n;
     }
-    return exact
-        && answer == (overdrawn < d->nodes ? packed(13, overdrawn) : 0);
+    return exact && answer == (overdrawn < d->nodes
+                                   ? packed_type(13, d->node[overdrawn].number,
+                                                 overdrawn)
+                                   : 0);
 }
 
 /* With fewer open calls, longer runs come within the limit of states. */

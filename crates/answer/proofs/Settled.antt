@@ -1,15 +1,15 @@
--- Number and place settle the answer.
+-- Number, type and place settle the answer.
 use Prim.Native.Nat.{ℕ}
 use mathlib.Core.Path.{_≡_, refl, sym, _∙_}
 use mathlib.Core.Bool.{cond}
 use lib.Dec.{eqb}
 use Rattle.answer.specs.declared.Answer.{Answer}
 use Rattle.answer.specs.declared.Answer.the-variants.{Pass, TooShort, BadCount, BadLength, BadEntry, BadNode, BadFlow, BadCall, BadCatch, BadOpening, BadSheet, BadBlock, Broken, Overdrawn, Unfit, NoCallRow, OutputShort}
-use Rattle.answer.specs.Number.{numberOf, placeOf, Says}
+use Rattle.answer.specs.Number.{numberOf, typeOf, placeOf, Says, SaysAs}
 
--- the answer that has the number and the place
-abbrev pub answerOf : ℕ → ℕ → Answer
-answerOf n p =
+-- the answer that has the number, the type and the place
+abbrev pub answerOf : ℕ → ℕ → ℕ → Answer
+answerOf n k p =
     cond (eqb n 0) Pass
     (cond (eqb n 1) TooShort
     (cond (eqb n 2) (BadCount p)
@@ -22,13 +22,13 @@ answerOf n p =
     (cond (eqb n 9) (BadOpening p)
     (cond (eqb n 10) BadSheet
     (cond (eqb n 11) (BadBlock p)
-    (cond (eqb n 12) (Broken p)
-    (cond (eqb n 13) (Overdrawn p)
+    (cond (eqb n 12) (Broken p k)
+    (cond (eqb n 13) (Overdrawn p k)
     (cond (eqb n 14) (Unfit p)
     (cond (eqb n 17) (NoCallRow p)
     OutputShort)))))))))))))))
 
-pub found : (a : Answer) → answerOf (numberOf a) (placeOf a) ≡ a
+pub found : (a : Answer) → answerOf (numberOf a) (typeOf a) (placeOf a) ≡ a
 found Pass = refl
 found TooShort = refl
 found (BadCount i) = refl
@@ -41,19 +41,19 @@ found (BadCatch k) = refl
 found (BadOpening k) = refl
 found BadSheet = refl
 found (BadBlock w) = refl
-found (Broken r) = refl
-found (Overdrawn n) = refl
+found (Broken r k) = refl
+found (Overdrawn n k) = refl
 found (Unfit n) = refl
 found (NoCallRow n) = refl
 found OutputShort = refl
 
-pub settled : (a b : Answer) → numberOf a ≡ numberOf b → placeOf a ≡ placeOf b → a ≡ b
-settled a b p q = sym (found a) ∙ (λ i. answerOf (p i) (q i)) ∙ found b
+pub settled : (a b : Answer) → numberOf a ≡ numberOf b → typeOf a ≡ typeOf b → placeOf a ≡ placeOf b → a ≡ b
+settled a b p q r = sym (found a) ∙ (λ i. answerOf (p i) (q i) (r i)) ∙ found b
 
 -- so what an answer says is said by no other
-pub says-only : {a : Answer} (b : Answer) → Says a (numberOf b) (placeOf b) → a ≡ b
-says-only {a} b h = settled a b (h .number-is) (h .place-is)
+pub says-only : {a : Answer} (b : Answer) → SaysAs a b → a ≡ b
+says-only {a} b h = settled a b (h .number-is) (h .type-is) (h .place-is)
 
--- an answer says its own number and place
-pub says : (a : Answer) → Says a (numberOf a) (placeOf a)
-says a = record { number-is = refl; place-is = refl }
+-- an answer says its own number, type and place
+pub says : (a : Answer) → SaysAs a a
+says a = record { number-is = refl; type-is = refl; place-is = refl }

@@ -1,10 +1,10 @@
--- The packed number determines number and place.
+-- The packed number determines number, type and place.
 use Prim.Native.Nat.{_/_, _%_, _<_}
 use mathlib.Core.Path.{_≡_, sym, _∙_}
 use native.Mathlib.Omega.{arith}
 use Rattle.answer.specs.declared.Answer.{Answer}
 use Rattle.answer.specs.declared.Answer.the-variants.{Pass, TooShort, BadCount, BadLength, BadEntry, BadNode, BadFlow, BadCall, BadCatch, BadOpening, BadSheet, BadBlock, Broken, Overdrawn, Unfit, NoCallRow, OutputShort}
-use Rattle.answer.specs.Number.{numberOf, placeOf, packedOf}
+use Rattle.answer.specs.Number.{numberOf, typeOf, placeOf, packedOf}
 use Rattle.answer.proofs.Settled.{answerOf, found}
 
 pub number-small : (a : Answer) → numberOf a < 256
@@ -20,8 +20,8 @@ number-small (BadCatch k) = omega arith
 number-small (BadOpening k) = omega arith
 number-small BadSheet = omega arith
 number-small (BadBlock w) = omega arith
-number-small (Broken r) = omega arith
-number-small (Overdrawn n) = omega arith
+number-small (Broken r k) = omega arith
+number-small (Overdrawn n k) = omega arith
 number-small (Unfit n) = omega arith
 number-small (NoCallRow n) = omega arith
 number-small OutputShort = omega arith
@@ -29,10 +29,14 @@ number-small OutputShort = omega arith
 pub number-unpacked : (a : Answer) → packedOf a % 256 ≡ numberOf a
 number-unpacked a = omega (arith, number-small a)
 
--- a place has 24 bits
-pub place-unpacked : (a : Answer) → placeOf a < 16777216 → packedOf a / 65536 % 16777216 ≡ placeOf a
-place-unpacked a h = omega (arith, number-small a)
+-- a type has 8 bits
+pub type-unpacked : (a : Answer) → typeOf a < 256 → packedOf a / 256 % 256 ≡ typeOf a
+type-unpacked a h = omega (arith, number-small a)
+
+-- and a place 24
+pub place-unpacked : (a : Answer) → typeOf a < 256 → placeOf a < 16777216 → packedOf a / 65536 % 16777216 ≡ placeOf a
+place-unpacked a k h = omega (arith, number-small a)
 
 -- only a pass has the number 0
 pub zero-pass : (a : Answer) → numberOf a ≡ 0 → a ≡ Pass
-zero-pass a h = sym (found a) ∙ (λ i. answerOf (h i) (placeOf a))
+zero-pass a h = sym (found a) ∙ (λ i. answerOf (h i) (typeOf a) (placeOf a))

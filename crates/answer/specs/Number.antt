@@ -1,75 +1,68 @@
--- The number and the place of each answer, as the table "What comes back" and the change requests give them, and both in one number.
+-- What each answer says, as the table "What comes back" and the change requests give it: number, type and place, and all in one number.
 use Prim.Native.Nat.{ℕ, _+_, _*_}
 use mathlib.Core.Path.{_≡_}
 use Rattle.answer.specs.declared.Answer.{Answer}
 use Rattle.answer.specs.declared.Answer.the-variants.{Pass, TooShort, BadCount, BadLength, BadEntry, BadNode, BadFlow, BadCall, BadCatch, BadOpening, BadSheet, BadBlock, Broken, Overdrawn, Unfit, NoCallRow, OutputShort}
 
-abbrev pub numberOf : Answer → ℕ
+pub record Said : Type 0 where
+  pub number : ℕ
+  pub type : ℕ
+  pub place : ℕ
+
+abbrev pub said : ℕ → ℕ → ℕ → Said
+said n k p = record { number = n; type = k; place = p }
+
+abbrev pub saidOf : Answer → Said
 -- pass
-numberOf Pass = 0
+saidOf Pass = said 0 0 0
 -- fewer than 14 bytes
-numberOf TooShort = 1
--- a trailer count outside its limits
-numberOf (BadCount i) = 2
+saidOf TooShort = said 1 0 0
+-- a trailer count outside its limits: which count, 0 to 5
+saidOf (BadCount i) = said 2 0 i
 -- distance is not the sum, or file length is not distance + 14
-numberOf BadLength = 3
+saidOf BadLength = said 3 0 0
 -- the lowest row refused: of the methods, the nodes, the flow, the calls, the catches, the opening stock
-numberOf (BadEntry k) = 4
-numberOf (BadNode k) = 5
-numberOf (BadFlow k) = 6
-numberOf (BadCall k) = 7
-numberOf (BadCatch k) = 8
-numberOf (BadOpening k) = 9
+saidOf (BadEntry k) = said 4 0 k
+saidOf (BadNode k) = said 5 0 k
+saidOf (BadFlow k) = said 6 0 k
+saidOf (BadCall k) = said 7 0 k
+saidOf (BadCatch k) = said 8 0 k
+saidOf (BadOpening k) = said 9 0 k
 -- the sheet's length is wrong
-numberOf BadSheet = 10
--- check only: a sheet block is ill formed
-numberOf (BadBlock w) = 11
--- check only: a sheet rule is broken
-numberOf (Broken r) = 12
--- overdrawn
-numberOf (Overdrawn n) = 13
--- profile not met
-numberOf (Unfit n) = 14
--- a call without a call row
-numberOf (NoCallRow n) = 17
+saidOf BadSheet = said 10 0 0
+-- check only: a sheet block is ill formed; first word of the lowest such block
+saidOf (BadBlock w) = said 11 0 w
+-- check only: a sheet rule is broken; the lowest rule number, and the type that fails
+saidOf (Broken r k) = said 12 k r
+-- overdrawn: lowest reached node whose draw is not covered, and the type drawn
+saidOf (Overdrawn n k) = said 13 k n
+-- profile not met: lowest node that breaks it
+saidOf (Unfit n) = said 14 0 n
+-- a call without a call row: lowest such node
+saidOf (NoCallRow n) = said 17 0 n
 -- the lent output is too short
-numberOf OutputShort = 26
+saidOf OutputShort = said 26 0 0
+
+abbrev pub numberOf : Answer → ℕ
+numberOf a = saidOf a .number
+
+abbrev pub typeOf : Answer → ℕ
+typeOf a = saidOf a .type
 
 abbrev pub placeOf : Answer → ℕ
-placeOf Pass = 0
-placeOf TooShort = 0
--- which count, 0 to 5
-placeOf (BadCount i) = i
-placeOf BadLength = 0
--- row
-placeOf (BadEntry k) = k
-placeOf (BadNode k) = k
-placeOf (BadFlow k) = k
-placeOf (BadCall k) = k
-placeOf (BadCatch k) = k
-placeOf (BadOpening k) = k
-placeOf BadSheet = 0
--- first word of the lowest such block
-placeOf (BadBlock w) = w
--- lowest rule number
-placeOf (Broken r) = r
--- lowest reached node whose draw is not covered
-placeOf (Overdrawn n) = n
--- lowest node that breaks the profile
-placeOf (Unfit n) = n
--- lowest such node
-placeOf (NoCallRow n) = n
-placeOf OutputShort = 0
+placeOf a = saidOf a .place
 
--- the answer has this number and this place
-pub record Says (a : Answer) (number place : ℕ) : Type 0 where
+-- the answer has this number, this type and this place
+pub record Says (a : Answer) (number type place : ℕ) : Type 0 where
   pub number-is : numberOf a ≡ number
+  pub type-is : typeOf a ≡ type
   pub place-is : placeOf a ≡ place
 
--- every answer has type 0 and line 0
-abbrev pub typeOf : Answer → ℕ
-typeOf a = 0
+-- those of the answer b
+abbrev pub SaysAs : Answer → Answer → Type 0
+SaysAs a b = Says a (numberOf b) (typeOf b) (placeOf b)
 
+-- every answer has line 0
 abbrev pub lineOf : Answer → ℕ
 lineOf a = 0
 

@@ -1,5 +1,5 @@
-// Checks the sheet and the graph file in each of the files that its arguments name, and prints the name, the answer's
-// number and its place. A file is two bytes, the graph file's length, lowest byte first, then the graph file, and then
+// Checks the sheet and the graph file in each of the files that its arguments name, and prints the name, and the answer's
+// number, type and place. A file is two bytes, the graph file's length, lowest byte first, then the graph file, and then
 // the sheet, which is all that is left.
 use libc::STDOUT_FILENO;
 
@@ -7,6 +7,8 @@ fn print_answer(name: &[u8], a: answer::Answer) {
     io::write_all(STDOUT_FILENO, name);
     io::write_all(STDOUT_FILENO, b" ");
     io::print_decimal(STDOUT_FILENO, answer::number(a) as u64);
+    io::write_all(STDOUT_FILENO, b" ");
+    io::print_decimal(STDOUT_FILENO, answer::type_of(a) as u64);
     io::write_all(STDOUT_FILENO, b" ");
     io::print_decimal(STDOUT_FILENO, answer::place(a) as u64);
     io::write_all(STDOUT_FILENO, b"\n");

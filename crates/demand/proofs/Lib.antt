@@ -1,1 +1,5 @@
-pub mod Cases
+pub mod Turned
+pub mod Given
+pub mod Asks
+pub mod Keeps
+pub mod Shows

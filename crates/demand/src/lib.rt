@@ -1,4 +1,4 @@
-// What the rules ask, row by row: the block that a rule leads to, and what it must be at most.
+// What the rules ask, row by row: what stands where a row comes from. Check and work out do two things with it where the row leads to.
 use effect::Effect;
 use layout::Shape;
 use rounds::Rounds;
@@ -6,15 +6,7 @@ use tables::Table;
 use tables::Tables;
 ghost use mathlib.Core.Path.{_≡_};
 ghost use Prim.Native.Nat.{_<_};
-ghost use Rattle.rows.specs.Rows.{Sorted};
-ghost use Rattle.demand.specs.Demand.{tableAt, asked, unasked, entryDemand, flowDemand, catchDemand, returnDemand, throwDemand, leaveDemand, nodeDemand, calledIn, thrownIn};
-
-// The block that starts at the word `at` must have mark 1 and be at most `most`, if that is asked at all.
-pub struct Demand {
-    pub asks: bool,
-    pub at: usize,
-    pub most: Effect,
-}
+ghost use Rattle.demand.specs.Demand.{tableAt, turned, goesIn, nodeEffect, steppedIn, calledIn, thrownIn};
 
 // What a call row gives: the call, the method called, whether the call is marked, whether exit 0 of the method is, and the rounds, which
 // nothing asks for where the call is not marked.
@@ -37,127 +29,38 @@ pub fn table_at(i: u16) -> Table
         return Table::Flow;
     }
     if i == 2 {
-        return Table::Catches;
-    }
-    if i == 3 {
         return Table::Nodes;
     }
     Table::Calls
 }
 
-fn ask(at: usize, most: Effect) -> Demand
-    ensures { λ r. ⌜ r ≡ asked at most ⌝ }
+// Which of n rows comes at step k.
+pub fn at_step(backwards: bool, n: u16, k: u16) -> u16
+    requires { ⌜ k < n ⌝ }
+    ensures { λ r. ⌜ r ≡ turned backwards n k ⌝ }
 {
-    Demand {
-        asks: true,
-        at,
-        most,
-    }
+    if backwards { n - 1 - k } else { k }
 }
 
-fn ask_nothing() -> Demand
-    ensures { λ r. ⌜ r ≡ unasked ⌝ }
+// The effect of node n.
+pub fn node_effect(s: &[u8], x: Shape, n: u16) -> Effect
+    ensures { λ r. ⌜ r ≡ nodeEffect x (now (s .entry)) n ⌝ }
 {
-    Demand {
-        asks: false,
-        at: 0,
-        most: effect::nothing_done(),
-    }
+    sheet::effect(s, x.types, layout::node_at(x, n))
 }
 
-// Rule 2, of method m.
-pub fn at_entry(f: &[u8], x: Shape, m: u16) -> Demand
-    ensures { λ r. ⌜ r ≡ entryDemand (now (f .entry)) x m ⌝ }
+// Rule 3: node n is a marked plain, grant or draw.
+pub fn goes(f: &[u8], t: Tables, x: Shape, s: &[u8], n: u16) -> bool
+    ensures { λ r. ⌜ r ≡ goesIn (now (f .entry)) t x (now (s .entry)) n ⌝ }
 {
-    ask(
-        layout::node_at(x, tables::entry(f, m)),
-        effect::nothing_done(),
-    )
+    (tables::node_kind(f, t, n) <= tables::DRAW) & sheet::is_marked(s, layout::node_at(x, n))
 }
 
-// Rule 3, of flow row k.
-pub fn along_flow(f: &[u8], t: Tables, x: Shape, s: &[u8], k: u16) -> Demand
-    ensures { λ r. ⌜ r ≡ flowDemand (now (f .entry)) t x (now (s .entry)) k ⌝ }
+// Rule 3: its effect, then the step.
+pub fn stepped(f: &[u8], t: Tables, x: Shape, s: &[u8], n: u16) -> Effect
+    ensures { λ r. ⌜ r ≡ steppedIn (now (f .entry)) t x (now (s .entry)) n ⌝ }
 {
-    let from = tables::flow_from(f, t, k);
-    let w = layout::node_at(x, from);
-    if tables::node_kind(f, t, from) > tables::DRAW {
-        return ask_nothing();
-    }
-    if sheet::is_marked(s, w) {
-        let e = effect::then(sheet::effect(s, x.types, w), nodes::step(f, t, from));
-        return ask(layout::node_at(x, tables::flow_to(f, t, k)), e);
-    }
-    ask_nothing()
-}
-
-// Rule 4, of catch row k.
-pub fn to_handler(f: &[u8], t: Tables, x: Shape, s: &[u8], k: u16) -> Demand
-    ensures { λ r. ⌜ r ≡ catchDemand (now (f .entry)) t x (now (s .entry)) k ⌝ }
-{
-    let from = tables::catch_from(f, t, k);
-    let w = layout::node_at(x, from);
-    if tables::node_kind(f, t, from) != tables::THROW {
-        return ask_nothing();
-    }
-    if sheet::is_marked(s, w) {
-        return ask(
-            layout::node_at(x, tables::catch_to(f, t, k)),
-            sheet::effect(s, x.types, w),
-        );
-    }
-    ask_nothing()
-}
-
-// Rule 5, of node n.
-fn at_return(f: &[u8], t: Tables, x: Shape, s: &[u8], n: u16) -> Demand
-    ensures { λ r. ⌜ r ≡ returnDemand (now (f .entry)) t x (now (s .entry)) n ⌝ }
-{
-    ask(
-        layout::exit_at(x, tables::node_method(f, t, n), 0),
-        sheet::effect(s, x.types, layout::node_at(x, n)),
-    )
-}
-
-// Rule 6, of node n.
-fn at_throw(f: &[u8], t: Tables, x: Shape, s: &[u8], n: u16) -> Demand
-    requires { ⌜ Sorted (now f) t ⌝ }
-    ensures { λ r. ⌜ r ≡ throwDemand (now (f .entry)) t x (now (s .entry)) n ⌝ }
-{
-    let e = tables::node_number(f, t, n);
-    if rows::uncaught(f, t, n, e) {
-        return ask(
-            layout::exit_at(x, tables::node_method(f, t, n), 1 + e),
-            sheet::effect(s, x.types, layout::node_at(x, n)),
-        );
-    }
-    ask_nothing()
-}
-
-// Rule 5 or 6, of the marked node n.
-fn at_marked(f: &[u8], t: Tables, x: Shape, s: &[u8], n: u16) -> Demand
-    requires { ⌜ Sorted (now f) t ⌝ }
-    ensures { λ r. ⌜ r ≡ leaveDemand (now (f .entry)) t x (now (s .entry)) n ⌝ }
-{
-    let kind = tables::node_kind(f, t, n);
-    if kind == tables::RETURN {
-        return at_return(f, t, x, s, n);
-    }
-    if kind == tables::THROW {
-        return at_throw(f, t, x, s, n);
-    }
-    ask_nothing()
-}
-
-// Rule 5 or 6, of node n.
-pub fn at_node(f: &[u8], t: Tables, x: Shape, s: &[u8], n: u16) -> Demand
-    requires { ⌜ Sorted (now f) t ⌝ }
-    ensures { λ r. ⌜ r ≡ nodeDemand (now (f .entry)) t x (now (s .entry)) n ⌝ }
-{
-    if sheet::is_marked(s, layout::node_at(x, n)) {
-        return at_marked(f, t, x, s, n);
-    }
-    ask_nothing()
+    effect::then(node_effect(s, x, n), nodes::step(f, t, n))
 }
 
 // Rules 7 to 10, of call row k.

@@ -28,11 +28,11 @@ use Rattle.sheet.specs.Read.{stockAt, effectAt, marked}
 use Rattle.sheet.specs.Write.{stockWord, effectWord}
 use Rattle.sheet.specs.Under.{effectUnder, stockUnder}
 use Rattle.rounds.specs.Rounds.{wholeOf, roundsOf}
-use Rattle.demand.specs.Demand.{asked, unasked, entryDemand, flowDemand, returnDemand, leaveDemand, nodeDemand, calledIn}
-use Rattle.rules.specs.Tests.{met, targetUnder, startUnder, afterCall, intoCall}
+use Rattle.demand.specs.Demand.{goesIn, steppedIn, calledIn}
+use Rattle.demand.specs.Walk.{rowsWalk, leavingWalk, startWalk, entryWalk, flowWalk, endWalk, nodeWalk, afterWalk, intoWalk, thrownWalk, calledWalk, tableWalk, tablesWalk, sheetWalk}
 use Rattle.permit.specs.Check.{uncoveredAt, verdictOf}
 use Rattle.lower.specs.Lower.{effectTo, stockTo}
-use Rattle.sweep.specs.Sweep.{meetTo, startTo, targetTo, afterTo, intoTo, thrownTo, thrownHolds, calledTo, calledHolds, tableTo, tableHolds, sweepTo, sweepHolds}
+use Rattle.sweep.specs.Sweep.{sheetOf, wroteOf, lowers, sweepOf}
 use Rattle.work.specs.Swept.{unswept, again}
 use Rattle.work.specs.Meaning.{WorksOut}
 use Rattle.work.proofs.Sweeping.{answers}
@@ -48,10 +48,10 @@ blank = replicate 242 0
 
 -- what the first sweep leaves, and the second
 one : List ℕ
-one = sweepTo fileA (tablesOf fileA) (shapeOf (tablesOf fileA)) false blank
+one = sheetOf (sweepOf fileA (tablesOf fileA) (shapeOf (tablesOf fileA)) false blank)
 
 two : List ℕ
-two = sweepTo fileA (tablesOf fileA) (shapeOf (tablesOf fileA)) true one
+two = sheetOf (sweepOf fileA (tablesOf fileA) (shapeOf (tablesOf fileA)) true one)
 
 -- All that is computed: the file passes, the sheet's length, the third sweep is content, the verdict, and the text.
 record Computed : Type 0 where
@@ -59,7 +59,7 @@ record Computed : Type 0 where
   small : length fileA ≡ 68
   long : length blank ≡ sheetBytes (shapeOf (tablesOf fileA))
   room : length blank ≡ sheetBytes (judgedOf fileA .shape)
-  content : sweepHolds fileA (tablesOf fileA) (shapeOf (tablesOf fileA)) false two ≡ true
+  content : wroteOf (sweepOf fileA (tablesOf fileA) (shapeOf (tablesOf fileA)) false two) ≡ false
   verdict : verdictOf fileA (tablesOf fileA) (shapeOf (tablesOf fileA)) two ≡ Pass
   text : textOf fileA Pass two ≡ printed
 
@@ -71,9 +71,8 @@ unfolding byteAt wordAt lowest joined placeText decimal
     above notAbove flowRow countBad lengthBad entryBad outOfRange unusedSet nodeBad flowBad callBad uncalled openingBad judgeRows judgeIn
     firstRow stretchOf doesIn openingIn methodAt exitAt nodeAt sheetWords sheetBytes
     stockAt effectAt bytesOf stockWord effectWord wholeOf roundsOf
-    marked asked unasked entryDemand flowDemand returnDemand leaveDemand nodeDemand calledIn
-    effectUnder stockUnder met targetUnder startUnder afterCall intoCall uncoveredAt
-    effectTo stockTo inTurn meetTo startTo targetTo afterTo intoTo thrownTo thrownHolds calledTo calledHolds tableTo tableHolds sweepTo sweepHolds
+    marked goesIn steppedIn calledIn effectUnder stockUnder uncoveredAt effectTo stockTo inTurn
+    rowsWalk leavingWalk startWalk entryWalk flowWalk endWalk nodeWalk afterWalk intoWalk thrownWalk calledWalk tableWalk tablesWalk sheetWalk lowers sweepOf
     firstLine countText lineOf nodeLines listingOf shapeFor
     words nodeRows pairs triples distance fileBytes aWith blank one two
 computed = record { passed = refl; small = refl; long = refl; room = refl; content = refl; verdict = refl; text = refl }

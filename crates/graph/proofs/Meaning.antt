@@ -55,8 +55,8 @@ module _ (f : List ℕ) where
   about-file (NoCallRow n) g = (omega arith, omega arith)
   about-file BadSheet g = absurd g
   about-file (BadBlock w) g = absurd g
-  about-file (Broken r) g = absurd g
-  about-file (Overdrawn n) g = absurd g
+  about-file (Broken r k) g = absurd g
+  about-file (Overdrawn n k) g = absurd g
   about-file (Unfit n) g = absurd g
   about-file OutputShort g = absurd g
 
@@ -75,8 +75,8 @@ module _ (f : List ℕ) where
   found (NoCallRow n) g = refl
   found BadSheet g = absurd g
   found (BadBlock w) g = absurd g
-  found (Broken r) g = absurd g
-  found (Overdrawn n) g = absurd g
+  found (Broken r k) g = absurd g
+  found (Overdrawn n k) g = absurd g
   found (Unfit n) g = absurd g
   found OutputShort g = absurd g
 

@@ -27,8 +27,8 @@ Given f t (BadOpening k) = (k < t .types) × (openingBad f t k ≡ true)
 -- the others are not about the file alone
 Given f t BadSheet = ⊥
 Given f t (BadBlock w) = ⊥
-Given f t (Broken r) = ⊥
-Given f t (Overdrawn n) = ⊥
+Given f t (Broken r k) = ⊥
+Given f t (Overdrawn n k) = ⊥
 Given f t (Unfit n) = ⊥
 Given f t OutputShort = ⊥
 Given f t Pass = ⊥
@@ -48,8 +48,8 @@ turnOf (BadOpening k) = 10
 -- the others have no turn here
 turnOf BadSheet = 0
 turnOf (BadBlock w) = 0
-turnOf (Broken r) = 0
-turnOf (Overdrawn n) = 0
+turnOf (Broken r k) = 0
+turnOf (Overdrawn n k) = 0
 turnOf (Unfit n) = 0
 turnOf OutputShort = 0
 turnOf Pass = 0
@@ -60,4 +60,4 @@ Before b a = (turnOf b < turnOf a) ⊎ ((turnOf b ≡ turnOf a) × (placeOf b < 
 
 pub data Judges (f : List ℕ) (a : Answer) : Type 0 where
   refuses : Given f (tablesOf f) a → ((b : Answer) → Before b a → Given f (tablesOf f) b → ⊥) → Judges f a
-  passes : ((b : Answer) → Given f (tablesOf f) b → ⊥) → Says a 0 0 → Judges f a
+  passes : ((b : Answer) → Given f (tablesOf f) b → ⊥) → Says a 0 0 0 → Judges f a

@@ -4,6 +4,7 @@ use mathlib.Core.List.{List}
 use Rattle.answer.specs.declared.Answer.{Answer}
 use Rattle.answer.specs.declared.Answer.the-variants.{BadNode, Overdrawn, Unfit, NoCallRow}
 use Rattle.tables.specs.declared.Tables.{Tables}
+use Rattle.tables.specs.Fields.{nodeNumber}
 
 -- 5: row k of the nodes is refused
 abbrev pub badNodeAt : List ℕ → Tables → ℕ → Answer
@@ -13,9 +14,9 @@ badNodeAt f t k = BadNode k
 abbrev pub noCallRowAt : List ℕ → Tables → ℕ → Answer
 noCallRowAt f t n = NoCallRow n
 
--- 13: overdrawn at the node n
+-- 13: overdrawn at the draw n, whose number is its type
 abbrev pub overdrawnAt : List ℕ → Tables → ℕ → Answer
-overdrawnAt f t n = Overdrawn n
+overdrawnAt f t n = Overdrawn n (nodeNumber f t n)
 
 -- 14: the node n breaks the profile
 abbrev pub unfitAt : List ℕ → Tables → ℕ → Answer

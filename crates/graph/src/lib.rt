@@ -39,7 +39,7 @@ fn no_call_row_at(f: &[u8], t: Tables, n: u16) -> Answer
 pub fn overdrawn_at(f: &[u8], t: Tables, n: u16) -> Answer
     ensures { λ r. ⌜ r ≡ overdrawnAt (now (f .entry)) t n ⌝ }
 {
-    Answer::Overdrawn(n)
+    Answer::Overdrawn(n, tables::node_number(f, t, n))
 }
 
 pub fn unfit_at(f: &[u8], t: Tables, n: u16) -> Answer

@@ -1,10 +1,12 @@
-// Judges each of the files that its arguments name, and prints the name, the answer's number and its place.
+// Judges each of the files that its arguments name, and prints the name, and the answer's number, type and place.
 use libc::STDOUT_FILENO;
 
 fn print_answer(name: &[u8], a: answer::Answer) {
     io::write_all(STDOUT_FILENO, name);
     io::write_all(STDOUT_FILENO, b" ");
     io::print_decimal(STDOUT_FILENO, answer::number(a) as u64);
+    io::write_all(STDOUT_FILENO, b" ");
+    io::print_decimal(STDOUT_FILENO, answer::type_of(a) as u64);
     io::write_all(STDOUT_FILENO, b" ");
     io::print_decimal(STDOUT_FILENO, answer::place(a) as u64);
     io::write_all(STDOUT_FILENO, b"\n");

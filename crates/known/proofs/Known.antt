@@ -8,7 +8,7 @@ use lib.Dec.{eqb}
 use Rattle.words.specs.Bytes.{byteAt, wordAt}
 use Rattle.words.specs.Lowest.{lowest}
 use Rattle.words.specs.Turn.{inTurn}
-use Rattle.effect.specs.Whole.{normalOf, nothingDone, drawOf, grantOf, applyOf, thenOf, bothOf, atMostOf, stockAtMostOf, coversOf}
+use Rattle.effect.specs.Whole.{normalOf, nothingDone, drawOf, grantOf, applyOf, thenOf, bothOf, atMostOf, stockAtMostOf, failsOf, stockFailsOf, coversOf}
 use Rattle.effect.specs.Meaning.{with-at, replaced, oneTaken}
 use Rattle.effect.proofs.Compute.{less, left, countAfter, rightsAfter, normDrop, thenCap, sumDrop, rank, largerDrop, countAtMost, within, normalForm, normalOne, idle, drawn, granted, applyOne, thenOne, bothOne, atMostOne, heldAtMost, coversHeld}
 use Rattle.model.specs.Stocks.{done, stepOf}
@@ -21,12 +21,11 @@ use Rattle.rows.specs.Rows.{firstRow, stretchOf}
 use Rattle.nodes.specs.Nodes.{doesIn, openingIn}
 use Rattle.layout.specs.Layout.{methodAt, exitAt, nodeAt, sheetWords, sheetBytes, blockSize, blockAt}
 use Rattle.sheet.specs.Read.{stockAt, effectAt, marked}
-use Rattle.sheet.specs.Under.{effectUnder, stockUnder}
 use Rattle.formed.specs.Ill.{someWord, countsFit, illBlock}
 use Rattle.rounds.specs.Rounds.{wholeOf, roundsOf}
-use Rattle.demand.specs.Demand.{asked, unasked, entryDemand, flowDemand, returnDemand, leaveDemand, nodeDemand, calledIn}
-use Rattle.rules.specs.Tests.{met, targetUnder, startUnder, afterCall, intoCall}
-use Rattle.rules.specs.Broken.{thrownBroken, calledBroken, callBroken, nodeBroken, brokenOf}
+use Rattle.demand.specs.Demand.{goesIn, steppedIn, calledIn}
+use Rattle.demand.specs.Walk.{rowsWalk, leavingWalk, startWalk, entryWalk, flowWalk, endWalk, nodeWalk, afterWalk, intoWalk, thrownWalk, calledWalk, tableWalk, tablesWalk, sheetWalk}
+use Rattle.rules.specs.Keys.{lessened, leastKey}
 use Rattle.permit.specs.Check.{uncoveredAt, wholeSheet, judgedSheet, checkOf}
 use Rattle.known.specs.File.{words, nodeRows, pairs, triples, distance, fileBytes}
 use Rattle.known.specs.Table.{aWith, revoked, withoutRight, neverReturns, table}
@@ -99,13 +98,12 @@ find (c ∷ d) n = cond (eqb (c .0) n) (c .1) (find d n)
 tested : tests (find certificates) table ≡ true
 unfolding byteAt wordAt lowest inTurn
     less left countAfter rightsAfter normDrop thenCap sumDrop rank largerDrop countAtMost within normalForm normalOne idle drawn granted applyOne thenOne bothOne atMostOne heldAtMost coversHeld
-    normalOf nothingDone drawOf grantOf applyOf thenOf bothOf atMostOf stockAtMostOf coversOf with-at replaced oneTaken done stepOf lowest-rounds whole-rounds earlier-rounds
+    normalOf nothingDone drawOf grantOf applyOf thenOf bothOf atMostOf stockAtMostOf failsOf stockFailsOf coversOf with-at replaced oneTaken done stepOf lowest-rounds whole-rounds earlier-rounds
     trailerAt trailer tablesOf entryOf nodeMethod nodeKind nodeNumber nodeCount nodeRights flowFrom flowTo callNode callMethod openingRights openingCount
     above notAbove flowRow countBad lengthBad entryBad outOfRange unusedSet nodeBad flowBad callBad uncalled openingBad judgeRows judgeIn
     firstRow stretchOf doesIn openingIn methodAt exitAt nodeAt sheetWords sheetBytes blockSize blockAt
     stockAt effectAt someWord countsFit illBlock wholeOf roundsOf
-    marked asked unasked entryDemand flowDemand returnDemand leaveDemand nodeDemand calledIn
-    effectUnder stockUnder met targetUnder startUnder afterCall intoCall thrownBroken calledBroken callBroken nodeBroken brokenOf
+    marked goesIn steppedIn calledIn rowsWalk leavingWalk startWalk entryWalk flowWalk endWalk nodeWalk afterWalk intoWalk thrownWalk calledWalk tableWalk tablesWalk sheetWalk lessened leastKey
     uncoveredAt wholeSheet judgedSheet checkOf
     words nodeRows pairs triples distance fileBytes aWith revoked withoutRight neverReturns table overdraws follows hasThese wordsOf test tests certificates find
 tested = refl

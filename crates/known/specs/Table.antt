@@ -9,9 +9,9 @@ use Rattle.known.specs.File.{node, File}
 
 -- What a row says.
 pub data Claim : Type 0 where
-  -- the file passes; it is overdrawn, and the node
+  -- the file passes; it is overdrawn, the node and the type
   passes : File → Claim
-  overdrawn : File → ℕ → Claim
+  overdrawn : File → ℕ → ℕ → Claim
   -- no run of the file arrives at the node
   unreached : File → ℕ → Claim
   -- of type 0 the effect has this keep-in, keep-max, cap and drop
@@ -86,7 +86,7 @@ dropping d = every 0 0xffff 255 d
 unfoldable pub table : List (ℕ × Claim)
 table =
     (1, passes (aWith 2 2))
-    ∷ (2, overdrawn (aWith 2 3) 3)
+    ∷ (2, overdrawn (aWith 2 3) 3 0)
     ∷ (3, passes (aWith 255 255))
     ∷ (4, has (thenOf (dropping 200) (dropping 100)) 0 0xffff 255 255)
     ∷ (5, has (thenOf (dropping 253) (dropping 1)) 0 0xffff 255 255)
@@ -94,8 +94,8 @@ table =
     ∷ (7, at-most (every 0 0x0101 0 256) (every 0 0x0101 5 9))
     ∷ (7, not-at-most (every 0 0x0101 5 9) (every 0 0x0101 0 256))
     ∷ (8, has (thenOf (grantOf 0 0x0101 2) (dropping 2)) 0x0101 0x0101 0 256)
-    ∷ (9, overdrawn revoked 1)
-    ∷ (10, overdrawn withoutRight 0)
+    ∷ (9, overdrawn revoked 1 0)
+    ∷ (10, overdrawn withoutRight 0 0)
     ∷ (11, unreached neverReturns 1)
     ∷ (11, passes neverReturns)
     ∷ []

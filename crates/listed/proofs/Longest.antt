@@ -15,6 +15,7 @@ use Rattle.tables.specs.Trailer.{tablesOf}
 use Rattle.graph.specs.Judge.{judgeOf}
 use Rattle.graph.specs.Judgement.{noShape, shapeFor, judgedOf}
 use Rattle.graph.proofs.Whole.{shape-within, limits}
+use Rattle.permit.proofs.Draws.{drawn-type}
 use Rattle.text.specs.Listing.{firstLine}
 use Rattle.text.proofs.Lengths.{is-short}
 use Rattle.text.proofs.Longest.{first-few, bare, pass-few, overdrawn-few}
@@ -35,11 +36,13 @@ module _ (f : List ℕ) where
   pub one-line : (judgeOf f ≡ Pass → ⊥) → (a : Answer) (r : List ℕ) → textOf f a r ≡ firstLine a
   one-line n a r = bare a f (tablesOf f) (judgedOf f .shape) r (ap (λ x. x .nodes) (no-shape n))
 
-  -- No listing has more than 46,094 bytes.
-  pub longest : (s r : List ℕ) {a : Answer} → WorksOut f s r a → length (textOf f a r) ≤ 46094
+  -- No listing has more than 46,096 bytes.
+  pub longest : (s r : List ℕ) {a : Answer} → WorksOut f s r a → length (textOf f a r) ≤ 46096
   longest s r {a} (refused n e v) = rw (one-line n a r) (omega (arith, first-few a))
   longest s r {a} (wrong-length p n e v) = rw (is-short a f (tablesOf f) (judgedOf f .shape) r (ap verdict (v .number-is))) (omega (arith, first-few a))
   longest s r {a} (overdrawn l w n o below v) =
       let y = w .reached n .1 (o .0, o .1) in
+      let k = drawn-type f (w .well-formed .0) n (y .0 .0) (o .0) (o .2) in
       overdrawn-few a f (tablesOf f) (judgedOf f .shape) r (shape-within f) (v .number-is) (omega (arith, v .place-is, y .0 .0, limits f (w .well-formed .0) .nodes))
+      (omega (arith, v .type-is, limits f (w .well-formed .0) .types))
   longest s r {a} (passes l w o v) = pass-few a f (tablesOf f) (judgedOf f .shape) r (shape-within f) (v .number-is)

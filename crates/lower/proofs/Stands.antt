@@ -1,41 +1,36 @@
 -- What may stand in a block: the operations keep to it, and so do the file's steps and opening stock and the blocks of a
 -- well-formed sheet.
 use Prim.Native.Nat.{ℕ, zero, suc, _+_, _-_, _*_, _≤_, _<_}
-use mathlib.Core.Path.{_≡_, refl, sym, subst, _∙_}
+use mathlib.Core.Path.{_≡_, refl}
 use mathlib.Core.Bool.{Bool, true, false}
 use mathlib.Core.List.{List}
 use lib.ListN.{getD}
 use lib.Dec.{leb}
 use borrow.Author.Tests.{le-leb}
-use native.Mathlib.Decide.{ℕ-discrete, decLt}
 use native.Mathlib.Omega.{arith}
-use Rattle.words.proofs.Read.{word-lt}
 use Rattle.effect.specs.declared.Stock.{Stock}
 use Rattle.effect.specs.declared.Effect.{Effect}
-use Rattle.effect.specs.Six.{six, oneAt}
-use Rattle.effect.specs.Whole.{normalOf, nothingDone, drawOf, grantOf, applyOf, thenOf, bothOf, lowerOf}
+use Rattle.effect.specs.Six.{oneAt}
+use Rattle.effect.specs.Whole.{normalOf, nothingDone, applyOf, thenOf, bothOf, lowerOf}
 use Rattle.effect.proofs.Six.{all-i}
-use Rattle.effect.proofs.Types.{EffectOf, StockOf, normal-small, nothing-of, then-of, both-of, apply-of, lower-of, draw-of, grant-of}
+use Rattle.effect.proofs.Types.{EffectOf, StockOf, normal-small, nothing-of, then-of, both-of, apply-of, lower-of}
 use Rattle.effect.proofs.Laws.{nothing-normal, draw-normal, grant-normal, then-normal, both-normal, normal-at}
-use Rattle.effect.proofs.Fields.{idle-fields, fields-idle}
-use Rattle.model.specs.Stocks.{permits, Does, plain, stepOf}
+use Rattle.effect.proofs.Fields.{idle-fields}
+use Rattle.model.specs.Stocks.{permits, Does, plain, grant, draw, stepOf}
 use Rattle.model.specs.Rounds.{lowest-rounds, whole-rounds, earlier-rounds}
 use Rattle.answer.specs.declared.Answer.the-variants.{Pass}
 use Rattle.tables.specs.Trailer.{tablesOf}
-use Rattle.tables.specs.Kinds.{grantKind, drawKind}
-use Rattle.tables.specs.Fields.{nodeKind, nodeRights, openingRights, openingCount}
-use Rattle.refuse.proofs.Fit.{node-fit, opening-fit}
 use Rattle.graph.specs.Judge.{judgeOf}
-use Rattle.graph.proofs.Passed.{judged}
-use Rattle.nodes.specs.Nodes.{doesIn, forType, openingIn}
-use Rattle.nodes.proofs.Cases.{does-outside, does-grant, does-draw, does-plain, for-some, for-none}
+use Rattle.nodes.specs.Nodes.{doesIn, openingIn}
+use Rattle.nodes.proofs.Types.{step-of, opening-of}
 use Rattle.layout.specs.declared.Shape.{Shape}
 use Rattle.layout.specs.Layout.{methodAt, exitAt, nodeAt, blockCount, blockAt, isStock}
 use Rattle.layout.proofs.Blocks.{block-method, block-exit, block-node}
 use Rattle.sheet.specs.Read.{markAt, stockAt, effectAt}
-use Rattle.sheet.proofs.Back.{FieldFits, six-at, stock-read, effect-read}
+use Rattle.sheet.proofs.Back.{stock-read, effect-read}
 use Rattle.formed.specs.Ill.{countsFit, firstIll}
 use Rattle.formed.proofs.Judged.{counts-le, block-formed}
+use Rattle.formed.proofs.Types.{fits-of}
 use Rattle.lower.proofs.Good.{Stands, StockStands}
 use Rattle.lower.proofs.Numbers.{method-stock, node-effect, exit-effect}
 
@@ -58,13 +53,7 @@ module _ (t : ℕ) (e : Effect) where
       small k l = normal-small (oneAt e k) (normal-at e n k l) (p .words k l)
 
   types : Stands t e → EffectOf t e
-  types p =
-      let f = p .fits in
-      record {
-        six = f .six;
-        words = f .keepmax .words;
-        rest = λ k u l. fields-idle e k (record { keepin = f .keepin .rest k u l; keepmax = f .keepmax .rest k u l; cap = f .cap .rest k u l; drop = f .drop .rest k u l });
-      }
+  types p = fits-of t e (p .fits)
 
 module _ (t : ℕ) (h : Stock) where
   counts-fit : ((k : ℕ) → k < 6 → getD (h .counts) k 0 ≤ 255) → countsFit h ≡ true
@@ -128,65 +117,19 @@ module _ (t : ℕ) (call x : Effect) (c : Stands t call) where
       both-stands t call (thenOf call (lowest-rounds permits x r)) c
       (then-stands t call (lowest-rounds permits x r) c (lowest-stands t x (h refl) r))
 
--- the step of a node: a draw or a grant of a type that the file has
-module _ (t j : ℕ) (h : j < t) where
-  draw-stands : Stands t (drawOf j)
-  draw-stands = stands t (drawOf j) (draw-normal j) (draw-of t j h)
-
-  grant-stands : (p m : ℕ) → p < 65536 → Stands t (grantOf j p m)
-  grant-stands p m l = stands t (grantOf j p m) (grant-normal j p m) (grant-of t j h p m l)
+-- the steps of the file's nodes, and its opening stock
+step-normal : (d : Does) → normalOf (stepOf d) ≡ true
+unfolding stepOf
+step-normal plain = nothing-normal
+step-normal (grant j p m) = grant-normal j p m
+step-normal (draw j p) = draw-normal j
 
 module _ (f : List ℕ) (pass : judgeOf f ≡ Pass) where
   pub step-stands : (n : ℕ) → Stands (tablesOf f .types) (stepOf (doesIn f (tablesOf f) n))
-  unfolding stepOf nodeRights
-  step-stands n = elim (decLt n (tablesOf f .nodes)) [
-    | no h ↦ here plain (does-outside f (tablesOf f) n (omega arith)) (nothing-stands (tablesOf f .types))
-    | yes h ↦
-        let fit = node-fit f (tablesOf f) n (judged f (tablesOf f) pass .nodes n h) in
-        elim (ℕ-discrete (nodeKind f (tablesOf f) n) grantKind) [
-          | yes g ↦ here _ (does-grant f (tablesOf f) n h g) (grant-stands (tablesOf f .types) _ (fit .grant-type g) _ _ (word-lt f _))
-          | no g ↦ elim (ℕ-discrete (nodeKind f (tablesOf f) n) drawKind) [
-            | yes d ↦ here _ (does-draw f (tablesOf f) n h d) (draw-stands (tablesOf f .types) _ (fit .draw-type d))
-            | no d ↦ here plain (does-plain f (tablesOf f) n h g d) (nothing-stands (tablesOf f .types))
-          ]
-        ]
-  ]
-    where
-      here : (d : Does) → doesIn f (tablesOf f) n ≡ d → Stands (tablesOf f .types) (stepOf d) → Stands (tablesOf f .types) (stepOf (doesIn f (tablesOf f) n))
-      here d e h = subst (λ (c : Does). Stands (tablesOf f .types) (stepOf c)) (sym e) h
-
-  at-most-word : {v : ℕ} → v < 65536 → v ≤ 65535
-  at-most-word h = omega arith
-
-  -- a field of the opening stock: at most what its rows have, and 0 of a type that the file does not have
-  opening-at-most : (row : ℕ → ℕ) (m : ℕ) → ((k : ℕ) → k < tablesOf f .types → row k ≤ m) → (k : ℕ) → k < 6 → getD (six (forType (tablesOf f) row)) k 0 ≤ m
-  opening-at-most row m h k l = rw (six-at (forType (tablesOf f) row) k l) (elim (decLt k (tablesOf f .types)) [
-    | yes u ↦ rw (for-some (tablesOf f) row k u) (h k u)
-    | no u ↦ rw (for-none (tablesOf f) row k (omega arith)) (omega arith)
-  ])
-
-  opening-fits : (row : ℕ → ℕ) → ((k : ℕ) → k < tablesOf f .types → row k ≤ 65535) → FieldFits (tablesOf f .types) 0 (six (forType (tablesOf f) row))
-  opening-fits row h =
-      record {
-        words = λ k l. omega (arith, opening-at-most row 65535 h k l);
-        rest = λ k u l. six-at (forType (tablesOf f) row) k l ∙ for-none (tablesOf f) row k u;
-      }
-
-  opening-count : (k : ℕ) → k < tablesOf f .types → openingCount f (tablesOf f) k ≤ 255
-  opening-count k h = opening-fit f (tablesOf f) k (judged f (tablesOf f) pass .opening k h)
+  step-stands n = stands (tablesOf f .types) (stepOf (doesIn f (tablesOf f) n)) (step-normal (doesIn f (tablesOf f) n)) (step-of f pass n)
 
   pub opening-stands : StockStands (tablesOf f .types) (openingIn f (tablesOf f))
-  unfolding openingIn openingRights
-  opening-stands =
-      let t = tablesOf f in
-      record {
-        counts = counts-fit (t .types) (openingIn f t) (opening-at-most (openingCount f t) 255 opening-count);
-        fits = record {
-          six = refl;
-          rights = opening-fits (openingRights f t) (λ k h. at-most-word (word-lt f _));
-          counts = opening-fits (openingCount f t) (λ k h. omega (arith, opening-count k h));
-        };
-      }
+  opening-stands = stock-stands (tablesOf f .types) (openingIn f (tablesOf f)) (opening-of f pass)
 
 -- what a marked block says, in a sheet with no ill-formed block
 module _ (x : Shape) (s : List ℕ) (whole : firstIll s x ≡ blockCount x) where

@@ -5,7 +5,6 @@ pub mod Sound
 pub mod Attained
 pub mod Exact
 pub mod Rounds
-pub mod Demands
 pub mod Brought
 pub mod Stocks
 pub mod Example

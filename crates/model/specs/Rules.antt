@@ -50,7 +50,7 @@ module _ (W : Effects) (G : Graph) (T : Sheet W) where
 
 -- The rules. `step n` is the effect of the own step of a plain, grant or draw node.
 module _ (W : Effects) (G : Graph) (step : ℕ → W .Effect) (opening : W .Stock) (T : Sheet W) where
-  open Effects W using (Stock, Effect, apply, nothing, then)
+  open Effects W using (Stock, Coord, at, Effect, apply, nothing, then)
   open Graph G using (methods, entry, method, repeats, Goes, Call, Return, Throw, Flow, Calls, Catch)
   open Sheet T using (Called, stock, Exit, exit, Node, node)
 
@@ -96,6 +96,12 @@ module _ (W : Effects) (G : Graph) (step : ℕ → W .Effect) (opening : W .Stoc
     pub methods-obey : {m : ℕ} {s : Stock} → AskMethod r m s → Called m × Below W (stock m) s
     pub nodes-obey : {n : ℕ} {e : Effect} → AskNode r n e → Node n × AtMost W (node n) e
     pub exits-obey : {m x : ℕ} {e : Effect} → AskExit r m x e → Exit m x × AtMost W (exit m x) e
+
+  -- The same at the coordinates that P picks, where the block has its mark: one without it is not compared.
+  pub record RuleAt (P : Coord → Type 0) (r : ℕ) : Type 0 where
+    pub methods-at : {m : ℕ} {s : Stock} → AskMethod r m s → Called m → (i : Coord) → P i → at i (stock m) ≤ at i s
+    pub nodes-at : {n : ℕ} {e : Effect} → AskNode r n e → Node n → (s : Stock) (i : Coord) → P i → at i (apply (node n) s) ≤ at i (apply e s)
+    pub exits-at : {m x : ℕ} {e : Effect} → AskExit r m x e → Exit m x → (s : Stock) (i : Coord) → P i → at i (apply (exit m x) s) ≤ at i (apply e s)
 
 -- U marks each block that T marks, and says at most the same there. "Greatest means fewest marks, and under equal marks the greatest effects
 -- and stocks": every sheet that obeys is under the greatest.

@@ -1,5 +1,5 @@
 -- What check computes is what its answers mean, no other answer is, and what it accepts no run overdraws.
-use Prim.Native.Nat.{ℕ, _≤_, _<_}
+use Prim.Native.Nat.{ℕ, _/_, _%_, _≤_, _<_}
 use mathlib.Core.Path.{_≡_, refl, sym, ap, subst, _∙_}
 use mathlib.Core.Bool.{Bool, true, false, cond}
 use mathlib.Core.Logic.{_↔_}
@@ -16,6 +16,9 @@ use Rattle.answer.specs.declared.Answer.the-variants.{Pass, BadSheet, BadBlock,
 use Rattle.answer.specs.Number.{numberOf}
 use Rattle.answer.proofs.Settled.{says-only, says}
 use Rattle.answer.proofs.Unpack.{zero-pass}
+use Rattle.effect.specs.Meaning.{LowestFailing}
+use Rattle.effect.proofs.Bools.{clash}
+use Rattle.effect.proofs.Failing.{one-lowest}
 use Rattle.model.proofs.Greatest.{Obeys}
 use Rattle.model.specs.Stocks.{permits}
 use Rattle.model.specs.Program.{steps}
@@ -30,10 +33,9 @@ use Rattle.nodes.proofs.Setting.{setting}
 use Rattle.layout.specs.declared.Shape.{Shape}
 use Rattle.layout.specs.Layout.{blockCount, blockAt, sheetBytes}
 use Rattle.formed.specs.Ill.{illBlock, firstIll}
-use Rattle.rules.specs.Broken.{brokenOf}
-use Rattle.rules.specs.Sheet.{sheet, WellFormed, Holds, IsReached}
-use Rattle.rules.proofs.Asked.{true-false}
-use Rattle.rules.proofs.Exact.{rules-below, rule-broken, rules-beyond}
+use Rattle.rules.specs.Keys.{noKey, leastKey}
+use Rattle.rules.specs.Sheet.{sheet, WellFormed, Holds, HoldsAt, IsReached}
+use Rattle.rules.proofs.Exact.{rules-below, rule-broken, rules-beyond, type-lowest}
 use Rattle.permit.specs.Check.{uncoveredAt, wholeSheet, judgedSheet, checkOf}
 use Rattle.permit.specs.Meaning.{IsCovered, Checks, refused, wrong-length, ill-formed, broken, overdrawn, accepted}
 use Rattle.permit.proofs.Draws.{uncovered-says, covered-says}
@@ -59,19 +61,19 @@ module _ (f s : List ℕ) where
       rw (passes (w .0), eq-eqb _ _ (w .1), n) refl
 
   module _ (w : WellFormed f s) where
-    pub all-hold : 11 ≤ brokenOf f t x s → (r : ℕ) → Holds f s r
+    pub all-hold : noKey ≤ leastKey f t x s → (r : ℕ) → Holds f s r
     all-hold h r = elim (decLt r 11) [
       | yes l ↦ rules-below f (w .0) s (whole-of (w .2)) r (omega arith)
       | no l ↦ rules-beyond f (w .0) s (whole-of (w .2)) r (omega arith)
     ]
 
-    none-broken : ((r : ℕ) → Holds f s r) → 11 ≤ brokenOf f t x s
-    none-broken h = elim (decLe 11 (brokenOf f t x s)) [
+    none-broken : ((r : ℕ) → Holds f s r) → noKey ≤ leastKey f t x s
+    none-broken h = elim (decLe noKey (leastKey f t x s)) [
       | yes l ↦ l
       | no l ↦ absurd (rule-broken f (w .0) s (whole-of (w .2)) (omega arith) (h _))
     ]
 
-    draws : 11 ≤ brokenOf f t x s → Checks f s (cond (ltb (lowest (uncoveredAt f t x s) (t .nodes)) (t .nodes)) (overdrawnAt f t (lowest (uncoveredAt f t x s) (t .nodes))) Pass)
+    draws : noKey ≤ leastKey f t x s → Checks f s (cond (ltb (lowest (uncoveredAt f t x s) (t .nodes)) (t .nodes)) (overdrawnAt f t (lowest (uncoveredAt f t x s) (t .nodes))) Pass)
     draws h = go (ltb n (t .nodes)) refl
       where
         n : ℕ
@@ -89,11 +91,11 @@ module _ (f s : List ℕ) where
 
     whole : Checks f s (wholeSheet f t x s)
     unfolding wholeSheet
-    whole = go (ltb (brokenOf f t x s) 11) refl
+    whole = go (ltb (leastKey f t x s) noKey) refl
       where
-        go : (b : Bool) → ltb (brokenOf f t x s) 11 ≡ b
-            → Checks f s (cond b (Broken (brokenOf f t x s)) (cond (ltb (lowest (uncoveredAt f t x s) (t .nodes)) (t .nodes)) (overdrawnAt f t (lowest (uncoveredAt f t x s) (t .nodes))) Pass))
-        go true e = broken w (brokenOf f t x s) (rules-below f (w .0) s (whole-of (w .2))) (rule-broken f (w .0) s (whole-of (w .2)) (ltb-true _ _ e)) (says (Broken (brokenOf f t x s)))
+        go : (b : Bool) → ltb (leastKey f t x s) noKey ≡ b
+            → Checks f s (cond b (Broken (leastKey f t x s / 8) (leastKey f t x s % 8)) (cond (ltb (lowest (uncoveredAt f t x s) (t .nodes)) (t .nodes)) (overdrawnAt f t (lowest (uncoveredAt f t x s) (t .nodes))) Pass))
+        go true e = broken w (leastKey f t x s / 8) (leastKey f t x s % 8) (λ q l. rules-below f (w .0) s (whole-of (w .2)) q (omega arith)) (rule-broken f (w .0) s (whole-of (w .2)) (ltb-true _ _ e)) (type-lowest f (w .0) s (whole-of (w .2)) (ltb-true _ _ e)) (says (Broken (leastKey f t x s / 8) (leastKey f t x s % 8)))
         go false e = draws (ltb-false _ _ e)
 
   judged : judgeOf f ≡ Pass → Checks f s (judgedSheet f t x s)
@@ -120,7 +122,7 @@ module _ (f s : List ℕ) where
     where
       go : (b : Bool) → eqb (numberOf (judgeOf f)) 0 ≡ b → Checks f s (cond b (judgedSheet f t x s) (judgeOf f))
       go true e = judged (zero-pass (judgeOf f) (eqb-true _ _ e))
-      go false e = refused (λ p. true-false (passes p) e) (says (judgeOf f))
+      go false e = refused (λ p. clash _ (passes p) e) (says (judgeOf f))
 
   -- and there is no second answer that does.
   pub only : {a : Answer} → Checks f s a → a ≡ checkOf f s
@@ -134,19 +136,32 @@ module _ (f s : List ℕ) where
   only (ill-formed p e b l h below v) =
       let q : firstIll s x ≡ b = lowest-is (illBlock s x) (blockCount x) b below l h in
       says-only (BadBlock (blockAt x b)) v ∙ rw (passes p, eq-eqb _ _ e, q, lt-ltb _ _ l) refl
-  only (broken w r below n v) =
-      let q : brokenOf f t x s ≡ r = is-r (decLt r (brokenOf f t x s)) (decLt (brokenOf f t x s) r) in
-      let l : r < 11 = few (decLt r 11) in
-      says-only (Broken r) v ∙ sym (checked-whole w ∙ rw (q, lt-ltb _ _ l) refl)
+  only (broken w r k below n low v) =
+      says-only (Broken r k) v ∙ sym (checked-whole w ∙ rw (lt-ltb _ _ some-key) (λ i. Broken (is-r i) (is-k i)))
     where
-      few : Dec (r < 11) → r < 11
-      few (yes h) = h
-      few (no h) = absurd (n (rules-beyond f (w .0) s (whole-of (w .2)) r (omega arith)))
+      few : r < 11
+      few = elim (decLt r 11) [
+        | yes h ↦ h
+        | no h ↦ absurd (n (rules-beyond f (w .0) s (whole-of (w .2)) r (omega arith)))
+      ]
 
-      is-r : Dec (r < brokenOf f t x s) → Dec (brokenOf f t x s < r) → brokenOf f t x s ≡ r
-      is-r (yes h) k = absurd (n (rules-below f (w .0) s (whole-of (w .2)) r h))
-      is-r (no h) (yes k) = absurd (rule-broken f (w .0) s (whole-of (w .2)) (omega (arith, few (decLt r 11))) (below _ k))
-      is-r (no h) (no k) = omega arith
+      some-key : leastKey f t x s < noKey
+      some-key = elim (decLt (leastKey f t x s) noKey) [
+        | yes h ↦ h
+        | no h ↦ absurd (n (rules-below f (w .0) s (whole-of (w .2)) r (omega (arith, few))))
+      ]
+
+      is-r : leastKey f t x s / 8 ≡ r
+      is-r = elim (decLt r (leastKey f t x s / 8)) [
+        | yes h ↦ absurd (n (rules-below f (w .0) s (whole-of (w .2)) r (omega arith)))
+        | no h ↦ elim (decLt (leastKey f t x s / 8) r) [
+          | yes g ↦ absurd (rule-broken f (w .0) s (whole-of (w .2)) some-key (below _ g))
+          | no g ↦ omega arith
+        ]
+      ]
+
+      is-k : leastKey f t x s % 8 ≡ k
+      is-k = one-lowest (subst (λ q. LowestFailing (HoldsAt f s q) (leastKey f t x s % 8)) is-r (type-lowest f (w .0) s (whole-of (w .2)) some-key)) low
   only (overdrawn w h n y u below v) =
       let q : lowest (uncoveredAt f t x s) (t .nodes) ≡ n = lowest-is (uncoveredAt f t x s) (t .nodes) n low (y .0 .0) (here (uncoveredAt f t x s n) refl) in
       says-only (overdrawnAt f t n) v ∙ sym (checked-whole w ∙ rw (le-ltb _ _ (none-broken w h), q, lt-ltb _ _ (y .0 .0)) refl)
@@ -177,7 +192,7 @@ module _ (f s : List ℕ) where
   was-accepted (refused n v) e = absurd (n (zero-pass (judgeOf f) (sym (v .number-is) ∙ e)))
   was-accepted (wrong-length p n v) e = absurd (omega (arith, v .number-is))
   was-accepted (ill-formed p q b l h k v) e = absurd (omega (arith, v .number-is))
-  was-accepted (broken w r h n v) e = absurd (omega (arith, v .number-is))
+  was-accepted (broken w r k h n low v) e = absurd (omega (arith, v .number-is))
   was-accepted (overdrawn w h n y u k v) e = absurd (omega (arith, v .number-is))
   was-accepted (accepted w h k v) e = (w, h, k)
 

@@ -1,5 +1,5 @@
 -- What check answers, computed: the first that applies.
-use Prim.Native.Nat.{ℕ}
+use Prim.Native.Nat.{ℕ, _/_, _%_}
 use mathlib.Core.Bool.{Bool, cond, _&&_, not}
 use mathlib.Core.List.{List}
 use lib.ListN.{length}
@@ -19,7 +19,7 @@ use Rattle.graph.specs.Judgement.{shapeOf}
 use Rattle.layout.specs.declared.Shape.{Shape}
 use Rattle.layout.specs.Layout.{blockCount, blockAt, sheetBytes}
 use Rattle.formed.specs.Ill.{firstIll}
-use Rattle.rules.specs.Broken.{brokenOf}
+use Rattle.rules.specs.Keys.{noKey, leastKey}
 use Rattle.listing.specs.Node.{isReached, nodeStock}
 
 -- node n is a draw that is reached and not covered
@@ -31,10 +31,10 @@ uncoveredAt f t x s n =
 abbrev pub verdictOf : List ℕ → Tables → Shape → List ℕ → Answer
 verdictOf f t x s = cond (ltb (lowest (uncoveredAt f t x s) (t .nodes)) (t .nodes)) (overdrawnAt f t (lowest (uncoveredAt f t x s) (t .nodes))) Pass
 
--- 12 a sheet rule is broken, else the verdict
+-- 12 a sheet rule is broken: the rule and the type that the least key names; else the verdict
 unfoldable pub wholeSheet : List ℕ → Tables → Shape → List ℕ → Answer
 wholeSheet f t x s =
-    cond (ltb (brokenOf f t x s) 11) (Broken (brokenOf f t x s)) (verdictOf f t x s)
+    cond (ltb (leastKey f t x s) noKey) (Broken (leastKey f t x s / 8) (leastKey f t x s % 8)) (verdictOf f t x s)
 
 -- 10 the sheet's length is wrong, 11 a sheet block is ill formed
 unfoldable pub judgedSheet : List ℕ → Tables → Shape → List ℕ → Answer

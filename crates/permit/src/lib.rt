@@ -57,9 +57,9 @@ fn of_whole(f: &[u8], t: Tables, x: Shape, s: &[u8]) -> Answer
     requires { ⌜ Sorted (now f) t ⌝ }
     ensures { λ r. ⌜ r ≡ wholeSheet (now (f .entry)) t x (now (s .entry)) ⌝ }
 {
-    let rule = rules::broken(f, t, x, s);
-    if rule < 11 {
-        return Answer::Broken(rule as u16);
+    let key = rules::least_key(f, t, x, s);
+    if key < rules::NONE {
+        return Answer::Broken((key / 8) as u16, (key % 8) as u16);
     }
     verdict(f, t, x, s)
 }

@@ -5,7 +5,7 @@ use mathlib.Core.List.{List}
 use Rattle.effect.specs.Coordinate.{bit}
 use Rattle.answer.specs.declared.Answer.{Answer}
 use Rattle.answer.specs.declared.Answer.the-variants.{Pass}
-use Rattle.answer.specs.Number.{numberOf, placeOf, Says}
+use Rattle.answer.specs.Number.{Says, SaysAs}
 use Rattle.tables.specs.declared.Tables.{Tables}
 use Rattle.tables.specs.Trailer.{tablesOf}
 use Rattle.tables.specs.Kinds.{grantKind, drawKind}
@@ -44,8 +44,8 @@ module _ (f : List ℕ) where
   -- For a profile, where `Breaks` says which nodes break it, the answer a.
   pub data Profiled (Breaks : ℕ → Type 0) (a : Answer) : Type 0 where
     -- 1 to 9, 17: the file is refused
-    refused : (judgeOf f ≡ Pass → ⊥) → Says a (numberOf (judgeOf f)) (placeOf (judgeOf f)) → Profiled Breaks a
+    refused : (judgeOf f ≡ Pass → ⊥) → SaysAs a (judgeOf f) → Profiled Breaks a
     -- 14: the lowest node that breaks the profile
-    unfit : judgeOf f ≡ Pass → (n : ℕ) → Breaks n → ((m : ℕ) → m < n → Breaks m → ⊥) → Says a 14 n → Profiled Breaks a
+    unfit : judgeOf f ≡ Pass → (n : ℕ) → Breaks n → ((m : ℕ) → m < n → Breaks m → ⊥) → Says a 14 0 n → Profiled Breaks a
     -- 0: no node breaks it
-    fits : judgeOf f ≡ Pass → ((n : ℕ) → Breaks n → ⊥) → Says a 0 0 → Profiled Breaks a
+    fits : judgeOf f ≡ Pass → ((n : ℕ) → Breaks n → ⊥) → Says a 0 0 0 → Profiled Breaks a

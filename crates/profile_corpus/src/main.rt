@@ -1,9 +1,12 @@
-// Judges each of the files that its arguments name by both profiles, and prints the name, and number and place of each answer.
+// Judges each of the files that its arguments name by both profiles, and prints the name, and number, type and place of each
+// answer.
 use libc::STDOUT_FILENO;
 
 fn print_answer(a: answer::Answer) {
     io::write_all(STDOUT_FILENO, b" ");
     io::print_decimal(STDOUT_FILENO, answer::number(a) as u64);
+    io::write_all(STDOUT_FILENO, b" ");
+    io::print_decimal(STDOUT_FILENO, answer::type_of(a) as u64);
     io::write_all(STDOUT_FILENO, b" ");
     io::print_decimal(STDOUT_FILENO, answer::place(a) as u64);
 }

@@ -73,5 +73,5 @@ targetOf f t Opening k = 0
 abbrev pub allIn : (ℕ → Bool) → Stretch → Bool
 allIn p s = allFor p (s .from) (s .to - s .from)
 
-abbrev pub eachIn : (ℕ → List ℕ → List ℕ) → Stretch → List ℕ → List ℕ
+abbrev pub eachIn : {A : Type 0} → (ℕ → A → A) → Stretch → A → A
 eachIn act s = inTurn act (s .from) (s .to - s .from)

@@ -1,4 +1,5 @@
 pub mod Blocks
-pub mod Asked
-pub mod Row
+pub mod Named
+pub mod Keys
 pub mod Exact
+pub mod Types

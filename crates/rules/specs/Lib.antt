@@ -1,3 +1,2 @@
-pub mod Tests
-pub mod Broken
+pub mod Keys
 pub mod Sheet

@@ -6,7 +6,8 @@ use mathlib.Core.List.{List}
 use lib.ListN.{length}
 use Rattle.answer.specs.declared.Answer.the-variants.{Pass}
 use Rattle.effect.specs.declared.Stock.{Stock}
-use Rattle.model.specs.Rules.{Sheet, Rule, Reached, stock-at}
+use Rattle.effect.specs.Coordinate.{typeOf}
+use Rattle.model.specs.Rules.{Sheet, Rule, RuleAt, Reached, stock-at}
 use Rattle.model.specs.Stocks.{permits}
 use Rattle.model.specs.Program.{steps}
 use Rattle.tables.specs.Trailer.{tablesOf}
@@ -34,6 +35,10 @@ module _ (f s : List ℕ) where
   -- rule r is obeyed
   abbrev pub Holds : ℕ → Type 0
   Holds r = Rule permits (programOf f .graph) (steps (programOf f)) (programOf f .opening) sheet r
+
+  -- rule r is obeyed at the type k, where the blocks have their marks
+  abbrev pub HoldsAt : ℕ → ℕ → Type 0
+  HoldsAt r k = RuleAt permits (programOf f .graph) (steps (programOf f)) (programOf f .opening) sheet (λ i. typeOf i ≡ k) r
 
   -- the node is reached, and its stock
   abbrev pub IsReached : ℕ → Type 0

@@ -1,6 +1,5 @@
-// Whether a sheet obeys the rules: the lowest rule that is broken, or 11.
+// Whether a sheet obeys the rules: the least key of what its rows ask. Every function takes the least key so far and gives the new one.
 use demand::Called;
-use demand::Demand;
 use effect::Effect;
 use effect::Stock;
 use layout::Shape;
@@ -8,229 +7,294 @@ use rows::Stretch;
 use tables::Table;
 use tables::Tables;
 ghost use mathlib.Core.Path.{_≡_};
-ghost use Prim.Native.Nat.{_<_, min};
-ghost use Rattle.words.specs.Least.{leastOf};
-ghost use Rattle.rows.specs.Rows.{Sorted, allIn};
-ghost use Rattle.demand.specs.Demand.{tableAt};
-ghost use Rattle.sheet.specs.Under.{effectUnder, stockUnder};
-ghost use Rattle.rules.specs.Tests.{met, targetUnder, startUnder, afterCall, intoCall};
-ghost use Rattle.rules.specs.Broken.{brokenIf, leavingBroken, thrownBroken, callBroken, nodeBroken, brokenAt, brokenIn, brokenOf};
+ghost use mathlib.Core.Bool.{true, false};
+ghost use Prim.Native.Nat.{_<_, _≤_};
+ghost use Rattle.words.specs.Turn.{inTurn};
+ghost use Rattle.tables.specs.declared.Table.the-variants.{Calls};
+ghost use Rattle.rows.specs.Rows.{Sorted, targetOf};
+ghost use Rattle.layout.specs.Layout.{nodeAt};
+ghost use Rattle.demand.specs.Walk.{of-effect, of-stock, rowsWalk, leavingWalk, startWalk, entryWalk, flowWalk, endWalk, nodeWalk, afterWalk, intoWalk, thrownWalk, rowWalk, tableWalk, tablesWalk};
+ghost use Rattle.rules.specs.Keys.{keyIf, lessened, leastKey};
 
-// The block at w has mark 1 and its effect is at most e.
-fn effect_under(s: &[u8], x: Shape, w: usize, e: Effect) -> bool
-    ensures { λ r. ⌜ r ≡ effectUnder (now (s .entry)) x w e ⌝ }
+// The key where nothing is broken.
+pub const NONE: usize = 88;
+
+// The key of a marked block that fails at the type k, or, with 6, at none.
+fn at_type(rule: u16, k: usize) -> usize
+    requires { ⌜ k ≤ 6 ⌝ }
+    ensures { λ r. ⌜ r ≡ keyIf true rule k ⌝ }
+{
+    if k == 6 {
+        return NONE;
+    }
+    8 * rule as usize + k
+}
+
+// By the rule, the block at w has mark 1 and its effect is at most e.
+fn effect_key(s: &[u8], x: Shape, rule: u16, w: usize, e: Effect, least: usize) -> usize
+    ensures { λ r. ⌜ r ≡ lessened x (now (s .entry)) (of-effect rule w e) least ⌝ }
 {
     if sheet::is_marked(s, w) {
-        return effect::at_most(sheet::effect(s, x.types, w), e);
+        let k = effect::fails(sheet::effect(s, x.types, w), e);
+        return words::smaller(least, at_type(rule, k));
     }
-    false
+    words::smaller(least, 8 * rule as usize + 6)
 }
 
-// The block at w has mark 1 and its stock is at most h.
-fn stock_under(s: &[u8], x: Shape, w: usize, h: Stock) -> bool
-    ensures { λ r. ⌜ r ≡ stockUnder (now (s .entry)) x w h ⌝ }
+// By the rule, the block at w has mark 1 and its stock is at most h.
+fn stock_key(s: &[u8], x: Shape, rule: u16, w: usize, h: Stock, least: usize) -> usize
+    ensures { λ r. ⌜ r ≡ lessened x (now (s .entry)) (of-stock rule w h) least ⌝ }
 {
     if sheet::is_marked(s, w) {
-        return effect::stock_at_most(sheet::stock(s, x.types, w), h);
+        let k = effect::stock_fails(sheet::stock(s, x.types, w), h);
+        return words::smaller(least, at_type(rule, k));
     }
-    false
+    words::smaller(least, 8 * rule as usize + 6)
 }
 
-fn meets(s: &[u8], x: Shape, d: Demand) -> bool
-    ensures { λ r. ⌜ r ≡ met (now (s .entry)) x d ⌝ }
+// Row j leads to a node.
+fn at_target(
+    f: &[u8],
+    t: Tables,
+    x: Shape,
+    s: &[u8],
+    table: Table,
+    rule: u16,
+    e: Effect,
+    j: u16,
+    least: usize,
+) -> usize
+    ensures { λ r. ⌜ r ≡ lessened x (now (s .entry)) (of-effect rule (nodeAt x (targetOf (now (f .entry)) t table j)) e) least ⌝ }
 {
-    if d.asks {
-        return effect_under(s, x, d.at, d.most);
-    }
-    true
+    let w = layout::node_at(x, rows::target(f, t, table, j));
+    effect_key(s, x, rule, w, e, least)
 }
 
-// The node that row j leads to is marked and at most e.
-fn target_under(f: &[u8], t: Tables, x: Shape, s: &[u8], table: Table, e: Effect, j: u16) -> bool
-    ensures { λ r. ⌜ r ≡ targetUnder (now (f .entry)) t x (now (s .entry)) table e j ⌝ }
-{
-    effect_under(s, x, layout::node_at(x, rows::target(f, t, table, j)), e)
-}
-
-// Each row of the stretch leads to a node that is marked and at most e.
-fn rows_under(f: &[u8], t: Tables, x: Shape, s: &[u8], table: Table, e: Effect, z: Stretch) -> bool
-    ensures { λ r. ⌜ r ≡ allIn (targetUnder (now (f .entry)) t x (now (s .entry)) table e) z ⌝ }
+// Each row of the stretch does. None ends the look: a later one may fail at a lower type.
+fn of_rows(
+    f: &[u8],
+    t: Tables,
+    x: Shape,
+    s: &[u8],
+    table: Table,
+    rule: u16,
+    e: Effect,
+    z: Stretch,
+    least: usize,
+) -> usize
+    ensures { λ r. ⌜ r ≡ rowsWalk (now (f .entry)) t x (λ v. now (s .entry)) (lessened x (now (s .entry))) table rule e z least ⌝ }
 {
     let end = z.to;
+    let mut key = least;
     let mut j = z.from;
     while j < end {
-        if !target_under(f, t, x, s, table, e, j) {
-            return false;
-        }
+        key = at_target(f, t, x, s, table, rule, e, j, key);
         j += 1;
     }
-    true
+    key
+}
+
+// The exception e comes to the node with y: its catch rows, by the rule `caught`, or the exit of the node's method, by the rule `out`.
+fn leaving(
+    f: &[u8],
+    t: Tables,
+    x: Shape,
+    s: &[u8],
+    caught: u16,
+    out: u16,
+    node: u16,
+    e: u16,
+    y: Effect,
+    least: usize,
+) -> usize
+    requires { ⌜ Sorted (now f) t × (e < 256) ⌝ }
+    ensures { λ r. ⌜ r ≡ leavingWalk (now (f .entry)) t x (λ v. now (s .entry)) (lessened x (now (s .entry))) caught out node e y least ⌝ }
+{
+    let handlers = rows::catches_of(f, t, node, e);
+    if rows::no_rows(handlers) {
+        let w = layout::exit_at(x, tables::node_method(f, t, node), 1 + e);
+        return effect_key(s, x, out, w, y, least);
+    }
+    of_rows(f, t, x, s, Table::Catches, caught, y, handlers, least)
+}
+
+// Rule 1.
+fn at_start(f: &[u8], t: Tables, x: Shape, s: &[u8], least: usize) -> usize
+    ensures { λ r. ⌜ r ≡ startWalk (now (f .entry)) t x (λ v. now (s .entry)) (lessened x (now (s .entry))) least ⌝ }
+{
+    stock_key(
+        s,
+        x,
+        1,
+        layout::method_at(x, 0),
+        nodes::opening(f, t),
+        least,
+    )
+}
+
+// Rule 2, of method m.
+fn at_entry(f: &[u8], t: Tables, x: Shape, s: &[u8], m: u16, least: usize) -> usize
+    ensures { λ r. ⌜ r ≡ entryWalk (now (f .entry)) t x (λ v. now (s .entry)) (lessened x (now (s .entry))) m least ⌝ }
+{
+    let w = layout::node_at(x, tables::entry(f, m));
+    effect_key(s, x, 2, w, effect::nothing_done(), least)
+}
+
+// Rule 3, of flow row k.
+fn along_flow(f: &[u8], t: Tables, x: Shape, s: &[u8], k: u16, least: usize) -> usize
+    ensures { λ r. ⌜ r ≡ flowWalk (now (f .entry)) t x (λ v. now (s .entry)) (lessened x (now (s .entry))) k least ⌝ }
+{
+    let from = tables::flow_from(f, t, k);
+    if demand::goes(f, t, x, s, from) {
+        let w = layout::node_at(x, tables::flow_to(f, t, k));
+        return effect_key(s, x, 3, w, demand::stepped(f, t, x, s, from), least);
+    }
+    least
+}
+
+// Rules 4 to 6, of a marked node n with the effect y.
+fn at_end(f: &[u8], t: Tables, x: Shape, s: &[u8], n: u16, y: Effect, least: usize) -> usize
+    requires { ⌜ Sorted (now f) t ⌝ }
+    ensures { λ r. ⌜ r ≡ endWalk (now (f .entry)) t x (λ v. now (s .entry)) (lessened x (now (s .entry))) n y least ⌝ }
+{
+    let kind = tables::node_kind(f, t, n);
+    if kind == tables::RETURN {
+        let w = layout::exit_at(x, tables::node_method(f, t, n), 0);
+        return effect_key(s, x, 5, w, y, least);
+    }
+    if kind == tables::THROW {
+        let e = tables::node_number(f, t, n);
+        return leaving(f, t, x, s, 4, 6, n, e, y, least);
+    }
+    least
+}
+
+// Rules 4 to 6, of node n.
+fn at_node(f: &[u8], t: Tables, x: Shape, s: &[u8], n: u16, least: usize) -> usize
+    requires { ⌜ Sorted (now f) t ⌝ }
+    ensures { λ r. ⌜ r ≡ nodeWalk (now (f .entry)) t x (λ v. now (s .entry)) (lessened x (now (s .entry))) n least ⌝ }
+{
+    if sheet::is_marked(s, layout::node_at(x, n)) {
+        return at_end(f, t, x, s, n, demand::node_effect(s, x, n), least);
+    }
+    least
 }
 
 // Rule 7, of a marked call.
-fn after_call(f: &[u8], t: Tables, x: Shape, s: &[u8], c: Called) -> bool
+fn after_call(f: &[u8], t: Tables, x: Shape, s: &[u8], c: Called, least: usize) -> usize
     requires { ⌜ Sorted (now f) t ⌝ }
-    ensures { λ r. ⌜ r ≡ afterCall (now (f .entry)) t x (now (s .entry)) c ⌝ }
+    ensures { λ r. ⌜ r ≡ afterWalk (now (f .entry)) t x (λ v. now (s .entry)) (lessened x (now (s .entry))) c least ⌝ }
 {
     if c.returns {
         let r = c.rounds;
-        return rows_under(
-            f,
-            t,
-            x,
-            s,
-            Table::Flow,
-            r.whole,
-            rows::flow_of(f, t, c.node),
-        );
+        let rows = rows::flow_of(f, t, c.node);
+        return of_rows(f, t, x, s, Table::Flow, 7, r.whole, rows, least);
     }
-    true
+    least
 }
 
 // Rule 8, of a marked call.
-fn into_call(f: &[u8], t: Tables, x: Shape, s: &[u8], c: Called) -> bool
-    ensures { λ r. ⌜ r ≡ intoCall (now (f .entry)) t x (now (s .entry)) c ⌝ }
+fn into_call(f: &[u8], t: Tables, x: Shape, s: &[u8], c: Called, least: usize) -> usize
+    ensures { λ r. ⌜ r ≡ intoWalk (now (f .entry)) t x (λ v. now (s .entry)) (lessened x (now (s .entry))) c least ⌝ }
 {
     let w = layout::method_at(x, tables::node_method(f, t, c.node));
     if sheet::is_marked(s, w) {
         let r = c.rounds;
         let h = effect::apply(r.earlier, sheet::stock(s, x.types, w));
-        return stock_under(s, x, layout::method_at(x, c.method), h);
+        return stock_key(s, x, 8, layout::method_at(x, c.method), h, least);
     }
-    true
-}
-
-// 11, or the rule's number where its test fails.
-fn unless(holds: bool, rule: usize) -> usize
-    ensures { λ r. ⌜ r ≡ brokenIf holds rule ⌝ }
-{
-    if holds { 11 } else { rule }
-}
-
-// Rules 9 and 10, of a marked call whose method the exception e leaves with y: its catch rows, or the caller's exit.
-fn leaving(f: &[u8], t: Tables, x: Shape, s: &[u8], node: u16, e: u16, y: Effect) -> usize
-    requires { ⌜ Sorted (now f) t × (e < 8) ⌝ }
-    ensures { λ r. ⌜ r ≡ leavingBroken (now (f .entry)) t x (now (s .entry)) node e y ⌝ }
-{
-    let handlers = rows::catches_of(f, t, node, e);
-    if rows::no_rows(handlers) {
-        let w = layout::exit_at(x, tables::node_method(f, t, node), 1 + e);
-        return unless(effect_under(s, x, w, y), 10);
-    }
-    unless(rows_under(f, t, x, s, Table::Catches, y, handlers), 9)
+    least
 }
 
 // Rules 9 and 10, of a marked call and the exception e.
-fn thrown(f: &[u8], t: Tables, x: Shape, s: &[u8], c: Called, e: u16) -> usize
+fn thrown(f: &[u8], t: Tables, x: Shape, s: &[u8], c: Called, e: u16, least: usize) -> usize
     requires { ⌜ Sorted (now f) t × (e < 8) ⌝ }
-    ensures { λ r. ⌜ r ≡ thrownBroken (now (f .entry)) t x (now (s .entry)) c e ⌝ }
+    ensures { λ r. ⌜ r ≡ thrownWalk (now (f .entry)) t x (λ v. now (s .entry)) (lessened x (now (s .entry))) c e least ⌝ }
 {
     if sheet::is_marked(s, layout::exit_at(x, c.method, 1 + e)) {
         let y = demand::thrown(s, x, c, e);
-        return leaving(f, t, x, s, c.node, e, y);
+        return leaving(f, t, x, s, 9, 10, c.node, e, y, least);
     }
-    11
+    least
 }
 
 // Rules 9 and 10, of a marked call.
-fn all_thrown(f: &[u8], t: Tables, x: Shape, s: &[u8], c: Called) -> usize
+fn all_thrown(f: &[u8], t: Tables, x: Shape, s: &[u8], c: Called, least: usize) -> usize
     requires { ⌜ Sorted (now f) t ⌝ }
-    ensures { λ r. ⌜ r ≡ leastOf 11 (thrownBroken (now (f .entry)) t x (now (s .entry)) c) 8 ⌝ }
+    ensures { λ r. ⌜ r ≡ inTurn (thrownWalk (now (f .entry)) t x (λ v. now (s .entry)) (lessened x (now (s .entry))) c) 0 8 least ⌝ }
 {
-    let mut least = 11;
+    let mut key = least;
     let mut e = 0;
     while e < 8 {
-        least = words::smaller(least, thrown(f, t, x, s, c, e));
+        key = thrown(f, t, x, s, c, e, key);
         e += 1;
     }
-    least
+    key
 }
 
 // Rules 7 to 10, of call row k.
-fn of_call(f: &[u8], t: Tables, x: Shape, s: &[u8], k: u16) -> usize
+fn of_call(f: &[u8], t: Tables, x: Shape, s: &[u8], k: u16, least: usize) -> usize
     requires { ⌜ Sorted (now f) t ⌝ }
-    ensures { λ r. ⌜ r ≡ callBroken (now (f .entry)) t x (now (s .entry)) k ⌝ }
+    ensures { λ r. ⌜ r ≡ rowWalk (now (f .entry)) t x (λ v. now (s .entry)) (lessened x (now (s .entry))) Calls k least ⌝ }
 {
     let c = demand::of_call(f, t, x, s, k);
-    if !c.marked {
-        return 11;
+    if c.marked {
+        let after = after_call(f, t, x, s, c, least);
+        let into = into_call(f, t, x, s, c, after);
+        return all_thrown(f, t, x, s, c, into);
     }
-    if !after_call(f, t, x, s, c) {
-        return 7;
-    }
-    if !into_call(f, t, x, s, c) {
-        return 8;
-    }
-    all_thrown(f, t, x, s, c)
+    least
 }
 
-// Rule 5 or 6, of node n.
-fn of_node(f: &[u8], t: Tables, x: Shape, s: &[u8], n: u16) -> usize
+// What row k of the table asks,
+fn of_row(f: &[u8], t: Tables, x: Shape, s: &[u8], table: Table, k: u16, least: usize) -> usize
     requires { ⌜ Sorted (now f) t ⌝ }
-    ensures { λ r. ⌜ r ≡ nodeBroken (now (f .entry)) t x (now (s .entry)) n ⌝ }
-{
-    let holds = meets(s, x, demand::at_node(f, t, x, s, n));
-    if tables::node_kind(f, t, n) == tables::RETURN {
-        return unless(holds, 5);
-    }
-    unless(holds, 6)
-}
-
-fn of_start(f: &[u8], t: Tables, x: Shape, s: &[u8]) -> bool
-    ensures { λ r. ⌜ r ≡ startUnder (now (f .entry)) t x (now (s .entry)) ⌝ }
-{
-    stock_under(s, x, layout::method_at(x, 0), nodes::opening(f, t))
-}
-
-// The lowest rule that row k of the table breaks.
-fn broken_at(f: &[u8], t: Tables, x: Shape, s: &[u8], table: Table, k: u16) -> usize
-    requires { ⌜ Sorted (now f) t ⌝ }
-    ensures { λ r. ⌜ r ≡ brokenAt (now (f .entry)) t x (now (s .entry)) table k ⌝ }
+    ensures { λ r. ⌜ r ≡ rowWalk (now (f .entry)) t x (λ v. now (s .entry)) (lessened x (now (s .entry))) table k least ⌝ }
 {
     match table {
-        Table::Trailer => 11,
-        Table::Methods => unless(meets(s, x, demand::at_entry(f, x, k)), 2),
-        Table::Nodes => of_node(f, t, x, s, k),
-        Table::Flow => unless(meets(s, x, demand::along_flow(f, t, x, s, k)), 3),
-        Table::Calls => of_call(f, t, x, s, k),
-        Table::Catches => unless(meets(s, x, demand::to_handler(f, t, x, s, k)), 4),
-        Table::Opening => 11,
+        Table::Trailer => least,
+        Table::Methods => at_entry(f, t, x, s, k, least),
+        Table::Nodes => at_node(f, t, x, s, k, least),
+        Table::Flow => along_flow(f, t, x, s, k, least),
+        Table::Calls => of_call(f, t, x, s, k, least),
+        Table::Catches => least,
+        Table::Opening => least,
     }
 }
 
-// The lowest rule that a row of the table breaks,
-fn broken_in(f: &[u8], t: Tables, x: Shape, s: &[u8], table: Table) -> usize
+// all rows of the table,
+fn of_table(f: &[u8], t: Tables, x: Shape, s: &[u8], table: Table, least: usize) -> usize
     requires { ⌜ Sorted (now f) t ⌝ }
-    ensures { λ r. ⌜ r ≡ brokenIn (now (f .entry)) t x (now (s .entry)) table ⌝ }
+    ensures { λ r. ⌜ r ≡ tableWalk (now (f .entry)) t x (λ v. now (s .entry)) (lessened x (now (s .entry))) false table least ⌝ }
 {
     let n = tables::rows(t, table);
-    let mut least = 11;
+    let mut key = least;
     let mut k = 0;
     while k < n {
-        least = words::smaller(least, broken_at(f, t, x, s, table, k));
+        key = of_row(f, t, x, s, table, k, key);
         k += 1;
     }
-    least
+    key
 }
 
-// and that a row of any table breaks.
-fn broken_rows(f: &[u8], t: Tables, x: Shape, s: &[u8]) -> usize
+// and all tables.
+fn of_tables(f: &[u8], t: Tables, x: Shape, s: &[u8], least: usize) -> usize
     requires { ⌜ Sorted (now f) t ⌝ }
-    ensures { λ r. ⌜ r ≡ leastOf 11 (λ i. brokenIn (now (f .entry)) t x (now (s .entry)) (tableAt i)) 5 ⌝ }
+    ensures { λ r. ⌜ r ≡ tablesWalk (now (f .entry)) t x (λ v. now (s .entry)) (lessened x (now (s .entry))) false least ⌝ }
 {
-    let mut least = 11;
+    let mut key = least;
     let mut i = 0;
-    while i < 5 {
-        least = words::smaller(least, broken_in(f, t, x, s, demand::table_at(i)));
+    while i < 4 {
+        key = of_table(f, t, x, s, demand::table_at(i), key);
         i += 1;
     }
-    least
+    key
 }
 
-// The lowest rule that the sheet breaks, or 11.
-pub fn broken(f: &[u8], t: Tables, x: Shape, s: &[u8]) -> usize
+// The least key of all that is asked of the sheet.
+pub fn least_key(f: &[u8], t: Tables, x: Shape, s: &[u8]) -> usize
     requires { ⌜ Sorted (now f) t ⌝ }
-    ensures { λ r. ⌜ r ≡ brokenOf (now (f .entry)) t x (now (s .entry)) ⌝ }
+    ensures { λ r. ⌜ r ≡ leastKey (now (f .entry)) t x (now (s .entry)) ⌝ }
 {
-    words::smaller(unless(of_start(f, t, x, s), 1), broken_rows(f, t, x, s))
+    of_tables(f, t, x, s, at_start(f, t, x, s, NONE))
 }

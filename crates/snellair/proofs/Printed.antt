@@ -27,7 +27,7 @@ long-printed {o = o} {n = n} h p =
     let e : n ≡ length text = omega (arith, p .ends) in
     at-start text (drop (0 + length text) o) (p .is) e (too-long h)
 
-pub list-printed : {input s s′ o o′ : List ℕ} {a : Answer} {n : ℕ} → Lists input s s′ o o′ a n → 46095 ≤ length o → length input ≤ 12454 → length s ≡ sheetBytes (judgedOf input .shape) → Printed input o′ n
+pub list-printed : {input s s′ o o′ : List ℕ} {a : Answer} {n : ℕ} → Lists input s s′ o o′ a n → 46097 ≤ length o → length input ≤ 12454 → length s ≡ sheetBytes (judgedOf input .shape) → Printed input o′ n
 list-printed (too-short h u v y z) few k l = absurd (omega arith)
 list-printed {input} {s′ = r} {o = o} {a = a} (told h w e z) few k l =
     let text : List ℕ = textOf input a r in

@@ -57,15 +57,15 @@ fn longest_file() -> [u8; 12455]
     [0; 12455]
 }
 
-fn longest_listing() -> [u8; 46095]
-    ensures { λ r. ⌜ 46095 ≡ length r ⌝ }
+fn longest_listing() -> [u8; 46097]
+    ensures { λ r. ⌜ 46097 ≡ length r ⌝ }
 {
-    [0; 46095]
+    [0; 46097]
 }
 
 // The listing of the input at the start of `out`. The sheet is the part of the longest that the file asks for.
 fn list(input: &[u8], out: &mut [u8]) -> usize
-    requires { ⌜ 46095 ≤ length (now out) ⌝ }
+    requires { ⌜ 46097 ≤ length (now out) ⌝ }
     ensures { λ r. ⌜ (r ≤ length (now (out .exit))) × Prints (now (input .entry)) (take r (now (out .exit))) ⌝ }
 {
     if input.len() > 12454 {

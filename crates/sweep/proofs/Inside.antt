@@ -8,7 +8,8 @@ use Rattle.tables.specs.declared.Tables.{Tables}
 use Rattle.tables.specs.declared.Table.{Table}
 use Rattle.tables.specs.declared.Table.the-variants.{Trailer, Methods, Nodes, Flow, Calls, Catches, Opening}
 use Rattle.tables.specs.Rows.{rowsOf}
-use Rattle.tables.specs.Fields.{nodeMethod, callNode, callMethod}
+use Rattle.tables.specs.Kinds.{throwKind}
+use Rattle.tables.specs.Fields.{nodeMethod, nodeKind, nodeNumber, callNode, callMethod}
 use Rattle.refuse.proofs.Fit.{entry-fit, node-fit, flow-fit, call-fit, catch-fit}
 use Rattle.answer.specs.declared.Answer.the-variants.{Pass}
 use Rattle.graph.specs.Judge.{judgeIn}
@@ -66,6 +67,10 @@ module _ {f : List ℕ} {t : Tables} {x : Shape} {s : List ℕ} (r : Ready f t x
 
   pub method-of : (n : ℕ) → n < t .nodes → nodeMethod f t n < t .methods
   method-of n l = node-fit f t n (judged f t (r .passed) .nodes n l) .method
+
+  -- a throw's exception is one of the eight
+  pub exception-of : (n : ℕ) → n < t .nodes → nodeKind f t n ≡ throwKind → nodeNumber f t n < 8
+  exception-of n l g = omega (arith, node-fit f t n (judged f t (r .passed) .nodes n l) .exception g)
 
   pub call-node : (k : ℕ) → k < t .calls → callNode f t k < t .nodes
   call-node k l = call-fit f t k (judged f t (r .passed) .calls k l) .node

@@ -1,12 +1,5 @@
 pub mod Turn
 pub mod Inside
-pub mod Cases
-pub mod Asks
-pub mod Steady
-pub mod Compose
-pub mod Rows
 pub mod Mixed
-pub mod Taken
-pub mod Calls
+pub mod Brought
 pub mod Sweeps
-pub mod Settled

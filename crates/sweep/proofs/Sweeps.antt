@@ -1,33 +1,26 @@
--- A row, a table and a whole sweep leave a good sheet as it was, or make it a lower good one.
-use Prim.Native.Nat.{ℕ, _<_}
-use mathlib.Core.Path.{_≡_, refl, ap}
-use mathlib.Core.Bool.{Bool, true, false}
+-- A sweep leaves a good sheet as it was, or makes it a lower good one; and one that wrote nothing found everything met that the rows ask.
+--   sweep-done, settled
+use Prim.Native.Nat.{ℕ}
+use mathlib.Core.Path.{_≡_, refl, sym, _∙_}
+use mathlib.Core.Logic.{_⊎_, inl, inr, ⊎-elim}
+use mathlib.Core.Bool.{Bool, true, false, not, _||_, true≢false, false≢true}
 use mathlib.Core.List.{List}
 use native.Mathlib.Omega.{arith}
 use Rattle.answer.specs.declared.Answer.the-variants.{Pass}
 use Rattle.tables.specs.declared.Tables.{Tables}
-use Rattle.tables.specs.declared.Table.{Table}
-use Rattle.tables.specs.declared.Table.the-variants.{Trailer, Methods, Nodes, Flow, Calls, Catches, Opening}
-use Rattle.tables.specs.Rows.{rowsOf}
 use Rattle.tables.specs.Trailer.{tablesOf}
 use Rattle.graph.specs.Judge.{judgeOf}
 use Rattle.graph.specs.Judgement.{shapeOf}
 use Rattle.layout.specs.declared.Shape.{Shape}
-use Rattle.demand.specs.Demand.{tableAt}
+use Rattle.demand.specs.Walk.{Ask, of-effect, of-stock, meets}
+use Rattle.demand.proofs.Asks.{Asks}
+use Rattle.demand.proofs.Keeps.{sheet-keeps}
+use Rattle.demand.proofs.Shows.{sheet-shows}
+use Rattle.lower.specs.Lower.{effectTo, stockTo}
 use Rattle.lower.proofs.Good.{Good, Done}
-use Rattle.sweep.specs.Sweep.{turned, startTo, rowTo, rowHolds, tableTo, tableHolds, tablesHold, sweepTo, sweepHolds}
-use Rattle.sweep.proofs.Compose.{done-none, done-both, done-turn}
-use Rattle.sweep.proofs.Rows.{start-done, entry-done, flow-done, catch-done, leave-done}
-use Rattle.sweep.proofs.Calls.{called-done}
-
--- the turned step is one of the n, and turned again it is the first
-pub turned-inside : (backwards : Bool) (n k : ℕ) → k < n → turned backwards n k < n
-turned-inside true n k l = omega arith
-turned-inside false n k l = l
-
-pub turned-twice : (backwards : Bool) (n k : ℕ) → k < n → turned backwards n (turned backwards n k) ≡ k
-turned-twice true n k l = omega arith
-turned-twice false n k l = refl
+use Rattle.lower.proofs.Block.{node-done, exit-done, method-done}
+use Rattle.sweep.specs.Sweep.{State, sheetOf, wroteOf, loweredTo, lowers, sweepOf}
+use Rattle.sweep.proofs.Brought.{Brought, of-node, of-exit, of-method, asks-brought}
 
 module _ (f : List ℕ) (pass : judgeOf f ≡ Pass) where
   abbrev t : Tables
@@ -36,26 +29,64 @@ module _ (f : List ℕ) (pass : judgeOf f ≡ Pass) where
   abbrev x : Shape
   x = shapeOf t
 
-  pub row-done : (table : Table) (k : ℕ) → k < rowsOf t table → (s : List ℕ) → Good f pass s → Done f pass s (rowTo f t x table k s) (rowHolds f t x table s k)
-  row-done Trailer k l s G = done-none f pass s G
-  row-done Methods k l s G = entry-done f pass s G k l
-  row-done Nodes k l s G = leave-done f pass s G k l
-  row-done Flow k l s G = flow-done f pass s G k l
-  row-done Calls k l s G = called-done f pass s G k l
-  row-done Catches k l s G = catch-done f pass s G k l
-  row-done Opening k l s G = done-none f pass s G
+  brought-done : {a : Ask} → Brought f pass a → (s : List ℕ) → Good f pass s → Done f pass s (loweredTo x s a) (meets x s a)
+  brought-done (of-node r n e l st h) s G = node-done f pass s G n l e st h
+  brought-done (of-exit r m y e l k st h) s G = exit-done f pass s G m y l k e st h
+  brought-done (of-method r m h l st hit) s G = method-done f pass s G m l h st hit
 
-  pub table-done : (backwards : Bool) (table : Table) (s : List ℕ) → Good f pass s → Done f pass s (tableTo f t x backwards table s) (tableHolds f t x backwards table s)
-  unfolding tableTo tableHolds
-  table-done backwards table =
-      let n = rowsOf t table in
-      done-turn f pass (λ k. rowTo f t x table (turned backwards n k)) (λ s k. rowHolds f t x table s (turned backwards n k)) 0 n
-      (λ k a l. row-done table (turned backwards n k) (turned-inside backwards n k (omega arith)))
+  -- one thing more is done, after what was done from s to r
+  done-next : {s r q : List ℕ} (wrote met : Bool) → Done f pass s r (not wrote) → Done f pass r q met → Done f pass s q (not (wrote || not met))
+  done-next true true d c = record { idle = λ e. absurd (false≢true e); good = c .good; falls = λ e. rw (c .idle refl) (d .falls refl) }
+  done-next true false d c = record { idle = λ e. absurd (false≢true e); good = c .good; falls = λ e. omega (arith, c .falls refl, d .falls refl) }
+  done-next false true d c = record { idle = λ e. c .idle refl ∙ d .idle refl; good = c .good; falls = λ e. absurd (true≢false e) }
+  done-next false false d c = record { idle = λ e. absurd (false≢true e); good = c .good; falls = λ e. rw (← d .idle refl) (c .falls refl) }
 
-  pub sweep-done : (backwards : Bool) (s : List ℕ) → Good f pass s → Done f pass s (sweepTo f t x backwards s) (sweepHolds f t x backwards s)
-  unfolding sweepTo sweepHolds
+  pub sweep-done : (backwards : Bool) (s : List ℕ) → Good f pass s → Done f pass s (sheetOf (sweepOf f t x backwards s)) (not (wroteOf (sweepOf f t x backwards s)))
+  unfolding sweepOf lowers
   sweep-done backwards s G =
-      let d = start-done f pass s G in
-      done-both f pass d
-      (done-turn f pass (λ i. tableTo f t x backwards (tableAt i)) (λ r i. tableHolds f t x backwards (tableAt i) r) 0 5 (λ i a l. table-done backwards (tableAt i)) (startTo f t x s) (d .good))
-      (λ p. ap (tablesHold f t x backwards) (d .idle p))
+      sheet-keeps f t x sheetOf (lowers x) (λ z. Done f pass s (sheetOf z) (not (wroteOf z)))
+      (λ w y z a p q h d. done-next (wroteOf z) (meets x (sheetOf z) a) d (brought-done (asks-brought f pass (sheetOf w) (sheetOf y) (p .good) (q .good) h) (sheetOf z) (d .good)))
+      backwards (s, false) (record { idle = λ e. refl; good = G; falls = λ e. absurd (true≢false e) })
+
+module _ (f : List ℕ) (t : Tables) (x : Shape) (s : List ℕ) where
+  -- something was written, or the sheet is still s
+  abbrev Wrote : State → Type 0
+  Wrote z = wroteOf z ≡ true
+
+  abbrev Still : State → Type 0
+  Still z = (sheetOf z ≡ s) × (wroteOf z ≡ false)
+
+  met-stays : (a : Ask) → meets x s a ≡ true → loweredTo x s a ≡ s
+  unfolding effectTo stockTo
+  met-stays (of-effect r w e) m = rw m refl
+  met-stays (of-stock r w h) m = rw m refl
+
+  stay : (a : Ask) (z : State) → Wrote z → Wrote (lowers x a z)
+  unfolding lowers
+  stay a z p = rw p refl
+
+  -- what s does not meet is written
+  hit : (a : Ask) → meets x s a ≡ false → (z : State) → Still z → Wrote (lowers x a z)
+  unfolding lowers
+  hit a m z q = rw (q .0, q .1, m) refl
+
+  step : (a : Ask) (z : State) → Still z → Wrote (lowers x a z) ⊎ Still (lowers x a z)
+  unfolding lowers
+  step a z q = go (meets x s a) refl
+    where
+      go : (b : Bool) → meets x s a ≡ b → Wrote (lowers x a z) ⊎ Still (lowers x a z)
+      go true m = inr (rw (q .0) (met-stays a m), rw (q .0, q .1, m) refl)
+      go false m = inl (hit a m z q)
+
+  module _ (backwards : Bool) (idle : wroteOf (sweepOf f t x backwards s) ≡ false) where
+    pub settled : (sheetOf (sweepOf f t x backwards s) ≡ s) × ((a : Ask) → Asks f t x s s a → meets x s a ≡ true)
+    unfolding sweepOf
+    settled = (
+      ⊎-elim (λ p. absurd (true≢false (sym p ∙ idle))) (λ q. q .0)
+          (sheet-keeps f t x sheetOf (lowers x) (λ z. Wrote z ⊎ Still z) (λ w y z a p q h. ⊎-elim (λ r. inl (stay a z r)) (step a z)) backwards (s, false) (inr (refl, refl))),
+      λ a h. met a h (meets x s a) refl,
+    )
+      where
+        met : (a : Ask) → Asks f t x s s a → (b : Bool) → meets x s a ≡ b → meets x s a ≡ true
+        met a h true m = m
+        met a h false m = absurd (true≢false (sym (sheet-shows f t x sheetOf (lowers x) s Wrote Still (λ z q. q .0) stay step backwards h (hit a m) (s, false) (inr (refl, refl))) ∙ idle))

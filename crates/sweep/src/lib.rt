@@ -1,53 +1,43 @@
-// One sweep over the ten rules: each block that a rule leads to is lowered where it stands. What the rules ask is what check tests.
+// One sweep over the ten rules: the rows are walked in their order, and each block that a rule leads to is lowered where it stands.
 use demand::Called;
-use demand::Demand;
 use effect::Effect;
+use effect::Stock;
 use layout::Shape;
 use rows::Stretch;
 use tables::Table;
 use tables::Tables;
 ghost use mathlib.Core.Path.{_≡_};
-ghost use mathlib.Core.Bool.{true, not};
-ghost use Prim.Native.Nat.{_+_, _*_, _<_, _≤_};
+ghost use Prim.Native.Nat.{ℕ, _+_, _*_, _<_, _≤_};
 ghost use lib.ListN.{length};
-ghost use Rattle.words.specs.Turn.{inTurn, allFor};
+ghost use Rattle.words.specs.Turn.{inTurn};
 ghost use Rattle.tables.specs.declared.Table.the-variants.{Calls};
 ghost use Rattle.tables.specs.Rows.{rowsOf};
-ghost use Rattle.rows.specs.Rows.{allIn, eachIn};
-ghost use Rattle.layout.specs.Layout.{effectSize};
-ghost use Rattle.rules.specs.Tests.{met, targetUnder, startUnder, afterCall, intoCall};
+ghost use Rattle.layout.specs.Layout.{stockSize, effectSize};
+ghost use Rattle.demand.specs.Walk.{of-effect, of-stock, rowsWalk, leavingWalk, startWalk, entryWalk, flowWalk, endWalk, nodeWalk, afterWalk, intoWalk, thrownWalk, rowWalk, tableWalk, tablesWalk};
 ghost use Rattle.sweep.specs.Ready.{Ready};
-ghost use Rattle.sweep.specs.Sweep.{turned, meetTo, startTo, targetTo, afterTo, intoTo, leavingTo, leavingHolds, thrownTo, thrownHolds, rowTo, rowHolds, tableTo, tableHolds, tablesTo, tablesHold, sweepTo, sweepHolds};
+ghost use Rattle.sweep.specs.Sweep.{sheetOf, lowers, sweepOf};
 
-// Every function here answers whether it wrote anything.
+// Every function here but the last is told whether anything was written before, and answers whether anything was by now.
 
-fn meet(s: &mut [u8], x: Shape, d: Demand) -> bool
-    requires { ⌜ (x .types ≤ 6) × (d .asks ≡ true → 2 * (d .at + effectSize (x .types)) ≤ length (now s)) ⌝ }
-    ensures { λ r. ⌜ (r ≡ not (met (now (s .entry)) x d)) × (now (s .exit) ≡ meetTo (now (s .entry)) x d) ⌝ }
+// Mark 1 and an effect at most e, of the block at w, by whichever rule.
+fn take_effect(s: &mut [u8], x: Shape, w: usize, e: Effect, wrote: bool) -> bool
+    requires { ⌜ (2 * (w + effectSize (x .types)) ≤ length (now s)) × (x .types ≤ 6) ⌝ }
+    ensures { λ r. ⌜ ((rule : ℕ) → (now (s .exit), r) ≡ lowers x (of-effect rule w e) (now (s .entry), wrote)) ⌝ }
 {
-    if d.asks {
-        return lower::effect_to(s, x, d.at, d.most);
-    }
-    false
+    let more = lower::effect_to(s, x, w, e);
+    wrote | more
 }
 
-// Rule 1.
-fn at_start(f: &[u8], t: Tables, x: Shape, s: &mut [u8]) -> bool
-    requires { ⌜ Ready (now f) t x (now s) ⌝ }
-    ensures { λ r. ⌜ (r ≡ not (startUnder (now (f .entry)) t x (now (s .entry)))) × (now (s .exit) ≡ startTo (now (f .entry)) t x (now (s .entry))) ⌝ }
+// Mark 1 and a stock at most h.
+fn take_stock(s: &mut [u8], x: Shape, w: usize, h: Stock, wrote: bool) -> bool
+    requires { ⌜ (2 * (w + stockSize (x .types)) ≤ length (now s)) × (x .types ≤ 6) ⌝ }
+    ensures { λ r. ⌜ ((rule : ℕ) → (now (s .exit), r) ≡ lowers x (of-stock rule w h) (now (s .entry), wrote)) ⌝ }
 {
-    lower::stock_to(s, x, layout::method_at(x, 0), nodes::opening(f, t))
+    let more = lower::stock_to(s, x, w, h);
+    wrote | more
 }
 
-// The node that row j leads to.
-fn target(f: &[u8], t: Tables, x: Shape, s: &mut [u8], table: Table, e: Effect, j: u16) -> bool
-    requires { ⌜ Ready (now f) t x (now s) × (j < rowsOf t table) ⌝ }
-    ensures { λ r. ⌜ (r ≡ not (targetUnder (now (f .entry)) t x (now (s .entry)) table e j)) × (now (s .exit) ≡ targetTo (now (f .entry)) t x table e j (now (s .entry))) ⌝ }
-{
-    lower::effect_to(s, x, layout::node_at(x, rows::target(f, t, table, j)), e)
-}
-
-// Each row of the stretch.
+// The node that each row of the stretch leads to.
 fn each_row(
     f: &[u8],
     t: Tables,
@@ -56,25 +46,107 @@ fn each_row(
     table: Table,
     e: Effect,
     z: Stretch,
+    wrote: bool,
 ) -> bool
     requires { ⌜ Ready (now f) t x (now s) × (z .to ≤ rowsOf t table) ⌝ }
-    ensures { λ r. ⌜ (r ≡ not (allIn (targetUnder (now (f .entry)) t x (now (s .entry)) table e) z)) × (now (s .exit) ≡ eachIn (targetTo (now (f .entry)) t x table e) z (now (s .entry))) ⌝ }
+    ensures { λ r. ⌜ ((rule : ℕ) → (now (s .exit), r) ≡ rowsWalk (now (f .entry)) t x sheetOf (lowers x) table rule e z (now (s .entry), wrote)) ⌝ }
 {
     let end = z.to;
-    let mut wrote = false;
+    let mut told = wrote;
     let mut j = z.from;
     while j < end {
-        let now = target(f, t, x, s, table, e, j);
-        wrote = wrote | now;
+        let w = layout::node_at(x, rows::target(f, t, table, j));
+        told = take_effect(s, x, w, e, told);
         j += 1;
+    }
+    told
+}
+
+// The exception e comes to the node n with y: its catch rows, or the exit of its method.
+fn leaving(
+    f: &[u8],
+    t: Tables,
+    x: Shape,
+    s: &mut [u8],
+    n: u16,
+    e: u16,
+    y: Effect,
+    wrote: bool,
+) -> bool
+    requires { ⌜ Ready (now f) t x (now s) × (n < t .nodes) × (e < 8) ⌝ }
+    ensures { λ r. ⌜ ((caught out : ℕ) → (now (s .exit), r) ≡ leavingWalk (now (f .entry)) t x sheetOf (lowers x) caught out n e y (now (s .entry), wrote)) ⌝ }
+{
+    let handlers = rows::catches_of(f, t, n, e);
+    if rows::no_rows(handlers) {
+        let w = layout::exit_at(x, tables::node_method(f, t, n), 1 + e);
+        return take_effect(s, x, w, y, wrote);
+    }
+    each_row(f, t, x, s, Table::Catches, y, handlers, wrote)
+}
+
+// Rule 1.
+fn at_start(f: &[u8], t: Tables, x: Shape, s: &mut [u8], wrote: bool) -> bool
+    requires { ⌜ Ready (now f) t x (now s) ⌝ }
+    ensures { λ r. ⌜ (now (s .exit), r) ≡ startWalk (now (f .entry)) t x sheetOf (lowers x) (now (s .entry), wrote) ⌝ }
+{
+    take_stock(s, x, layout::method_at(x, 0), nodes::opening(f, t), wrote)
+}
+
+// Rule 2, of method m.
+fn at_entry(f: &[u8], t: Tables, x: Shape, s: &mut [u8], m: u16, wrote: bool) -> bool
+    requires { ⌜ Ready (now f) t x (now s) × (m < t .methods) ⌝ }
+    ensures { λ r. ⌜ (now (s .exit), r) ≡ entryWalk (now (f .entry)) t x sheetOf (lowers x) m (now (s .entry), wrote) ⌝ }
+{
+    let w = layout::node_at(x, tables::entry(f, m));
+    take_effect(s, x, w, effect::nothing_done(), wrote)
+}
+
+// Rule 3, of flow row k.
+fn along_flow(f: &[u8], t: Tables, x: Shape, s: &mut [u8], k: u16, wrote: bool) -> bool
+    requires { ⌜ Ready (now f) t x (now s) × (k < t .flows) ⌝ }
+    ensures { λ r. ⌜ (now (s .exit), r) ≡ flowWalk (now (f .entry)) t x sheetOf (lowers x) k (now (s .entry), wrote) ⌝ }
+{
+    let n = tables::flow_from(f, t, k);
+    if demand::goes(f, t, x, s, n) {
+        let e = demand::stepped(f, t, x, s, n);
+        let w = layout::node_at(x, tables::flow_to(f, t, k));
+        return take_effect(s, x, w, e, wrote);
+    }
+    wrote
+}
+
+// Rules 4 to 6, of a marked node n with the effect y.
+fn at_end(f: &[u8], t: Tables, x: Shape, s: &mut [u8], n: u16, y: Effect, wrote: bool) -> bool
+    requires { ⌜ Ready (now f) t x (now s) × (n < t .nodes) ⌝ }
+    ensures { λ r. ⌜ (now (s .exit), r) ≡ endWalk (now (f .entry)) t x sheetOf (lowers x) n y (now (s .entry), wrote) ⌝ }
+{
+    let kind = tables::node_kind(f, t, n);
+    if kind == tables::RETURN {
+        let w = layout::exit_at(x, tables::node_method(f, t, n), 0);
+        return take_effect(s, x, w, y, wrote);
+    }
+    if kind == tables::THROW {
+        return leaving(f, t, x, s, n, tables::node_number(f, t, n), y, wrote);
+    }
+    wrote
+}
+
+// Rules 4 to 6, of node n.
+fn at_node(f: &[u8], t: Tables, x: Shape, s: &mut [u8], n: u16, wrote: bool) -> bool
+    requires { ⌜ Ready (now f) t x (now s) × (n < t .nodes) ⌝ }
+    ensures { λ r. ⌜ (now (s .exit), r) ≡ nodeWalk (now (f .entry)) t x sheetOf (lowers x) n (now (s .entry), wrote) ⌝ }
+{
+    if sheet::is_marked(s, layout::node_at(x, n)) {
+        let y = demand::node_effect(s, x, n);
+        return at_end(f, t, x, s, n, y, wrote);
     }
     wrote
 }
 
 // Rule 7, of a marked call.
-fn after_call(f: &[u8], t: Tables, x: Shape, s: &mut [u8], c: Called) -> bool
+fn after_call(f: &[u8], t: Tables, x: Shape, s: &mut [u8], c: Called, wrote: bool) -> bool
     requires { ⌜ Ready (now f) t x (now s) ⌝ }
-    ensures { λ r. ⌜ (r ≡ not (afterCall (now (f .entry)) t x (now (s .entry)) c)) × (now (s .exit) ≡ afterTo (now (f .entry)) t x c (now (s .entry))) ⌝ }
+    ensures { λ r. ⌜ (now (s .exit), r) ≡ afterWalk (now (f .entry)) t x sheetOf (lowers x) c (now (s .entry), wrote) ⌝ }
 {
     if c.returns {
         let r = c.rounds;
@@ -86,141 +158,124 @@ fn after_call(f: &[u8], t: Tables, x: Shape, s: &mut [u8], c: Called) -> bool
             Table::Flow,
             r.whole,
             rows::flow_of(f, t, c.node),
+            wrote,
         );
     }
-    false
+    wrote
 }
 
 // Rule 8, of a marked call.
-fn into_call(f: &[u8], t: Tables, x: Shape, s: &mut [u8], c: Called) -> bool
+fn into_call(f: &[u8], t: Tables, x: Shape, s: &mut [u8], c: Called, wrote: bool) -> bool
     requires { ⌜ Ready (now f) t x (now s) × (c .method < t .methods) ⌝ }
-    ensures { λ r. ⌜ (r ≡ not (intoCall (now (f .entry)) t x (now (s .entry)) c)) × (now (s .exit) ≡ intoTo (now (f .entry)) t x c (now (s .entry))) ⌝ }
+    ensures { λ r. ⌜ (now (s .exit), r) ≡ intoWalk (now (f .entry)) t x sheetOf (lowers x) c (now (s .entry), wrote) ⌝ }
 {
     let w = layout::method_at(x, tables::node_method(f, t, c.node));
     if sheet::is_marked(s, w) {
         let r = c.rounds;
         let h = effect::apply(r.earlier, sheet::stock(s, x.types, w));
-        return lower::stock_to(s, x, layout::method_at(x, c.method), h);
+        return take_stock(s, x, layout::method_at(x, c.method), h, wrote);
     }
-    false
-}
-
-// Rules 9 and 10, of a marked call whose method the exception e leaves with y: its catch rows, or the caller's exit.
-fn leaving(f: &[u8], t: Tables, x: Shape, s: &mut [u8], node: u16, e: u16, y: Effect) -> bool
-    requires { ⌜ Ready (now f) t x (now s) × (node < t .nodes) × (e < 8) ⌝ }
-    ensures { λ r. ⌜ (r ≡ not (leavingHolds (now (f .entry)) t x node e y (now (s .entry)))) × (now (s .exit) ≡ leavingTo (now (f .entry)) t x node e y (now (s .entry))) ⌝ }
-{
-    let handlers = rows::catches_of(f, t, node, e);
-    if rows::no_rows(handlers) {
-        let w = layout::exit_at(x, tables::node_method(f, t, node), 1 + e);
-        return lower::effect_to(s, x, w, y);
-    }
-    each_row(f, t, x, s, Table::Catches, y, handlers)
+    wrote
 }
 
 // Rules 9 and 10, of a marked call and the exception e.
-fn thrown(f: &[u8], t: Tables, x: Shape, s: &mut [u8], c: Called, e: u16) -> bool
+fn thrown(f: &[u8], t: Tables, x: Shape, s: &mut [u8], c: Called, e: u16, wrote: bool) -> bool
     requires { ⌜ Ready (now f) t x (now s) × (c .node < t .nodes) × (e < 8) ⌝ }
-    ensures { λ r. ⌜ (r ≡ not (thrownHolds (now (f .entry)) t x c (now (s .entry)) e)) × (now (s .exit) ≡ thrownTo (now (f .entry)) t x c e (now (s .entry))) ⌝ }
+    ensures { λ r. ⌜ (now (s .exit), r) ≡ thrownWalk (now (f .entry)) t x sheetOf (lowers x) c e (now (s .entry), wrote) ⌝ }
 {
     if sheet::is_marked(s, layout::exit_at(x, c.method, 1 + e)) {
         let y = demand::thrown(s, x, c, e);
-        return leaving(f, t, x, s, c.node, e, y);
+        return leaving(f, t, x, s, c.node, e, y, wrote);
     }
-    false
+    wrote
 }
 
 // Rules 9 and 10, of a marked call.
-fn all_thrown(f: &[u8], t: Tables, x: Shape, s: &mut [u8], c: Called) -> bool
+fn all_thrown(f: &[u8], t: Tables, x: Shape, s: &mut [u8], c: Called, wrote: bool) -> bool
     requires { ⌜ Ready (now f) t x (now s) × (c .node < t .nodes) ⌝ }
-    ensures { λ r. ⌜ (r ≡ not (allFor (thrownHolds (now (f .entry)) t x c (now (s .entry))) 0 8)) × (now (s .exit) ≡ inTurn (thrownTo (now (f .entry)) t x c) 0 8 (now (s .entry))) ⌝ }
+    ensures { λ r. ⌜ (now (s .exit), r) ≡ inTurn (thrownWalk (now (f .entry)) t x sheetOf (lowers x) c) 0 8 (now (s .entry), wrote) ⌝ }
 {
-    let mut wrote = false;
+    let mut told = wrote;
     let mut e = 0;
     while e < 8 {
-        let now = thrown(f, t, x, s, c, e);
-        wrote = wrote | now;
+        told = thrown(f, t, x, s, c, e, told);
         e += 1;
     }
-    wrote
+    told
 }
 
 // Rules 7 to 10, of call row k. What the row gives is taken once, when its turn comes.
-fn of_call(f: &[u8], t: Tables, x: Shape, s: &mut [u8], k: u16) -> bool
+fn of_call(f: &[u8], t: Tables, x: Shape, s: &mut [u8], k: u16, wrote: bool) -> bool
     requires { ⌜ Ready (now f) t x (now s) × (k < t .calls) ⌝ }
-    ensures { λ r. ⌜ (r ≡ not (rowHolds (now (f .entry)) t x Calls (now (s .entry)) k)) × (now (s .exit) ≡ rowTo (now (f .entry)) t x Calls k (now (s .entry))) ⌝ }
+    ensures { λ r. ⌜ (now (s .exit), r) ≡ rowWalk (now (f .entry)) t x sheetOf (lowers x) Calls k (now (s .entry), wrote) ⌝ }
 {
     let c = demand::of_call(f, t, x, s, k);
-    if !c.marked {
-        return false;
+    if c.marked {
+        let after = after_call(f, t, x, s, c, wrote);
+        let into = into_call(f, t, x, s, c, after);
+        return all_thrown(f, t, x, s, c, into);
     }
-    let after = after_call(f, t, x, s, c);
-    let into = into_call(f, t, x, s, c);
-    let thrown = all_thrown(f, t, x, s, c);
-    after | (into | thrown)
+    wrote
 }
 
 // Row k of the table.
-fn row(f: &[u8], t: Tables, x: Shape, s: &mut [u8], table: Table, k: u16) -> bool
+fn row(f: &[u8], t: Tables, x: Shape, s: &mut [u8], table: Table, k: u16, wrote: bool) -> bool
     requires { ⌜ Ready (now f) t x (now s) × (k < rowsOf t table) ⌝ }
-    ensures { λ r. ⌜ (r ≡ not (rowHolds (now (f .entry)) t x table (now (s .entry)) k)) × (now (s .exit) ≡ rowTo (now (f .entry)) t x table k (now (s .entry))) ⌝ }
+    ensures { λ r. ⌜ (now (s .exit), r) ≡ rowWalk (now (f .entry)) t x sheetOf (lowers x) table k (now (s .entry), wrote) ⌝ }
 {
     match table {
-        Table::Trailer => false,
-        Table::Methods => meet(s, x, demand::at_entry(f, x, k)),
-        Table::Nodes => meet(s, x, demand::at_node(f, t, x, s, k)),
-        Table::Flow => meet(s, x, demand::along_flow(f, t, x, s, k)),
-        Table::Calls => of_call(f, t, x, s, k),
-        Table::Catches => meet(s, x, demand::to_handler(f, t, x, s, k)),
-        Table::Opening => false,
+        Table::Trailer => wrote,
+        Table::Methods => at_entry(f, t, x, s, k, wrote),
+        Table::Nodes => at_node(f, t, x, s, k, wrote),
+        Table::Flow => along_flow(f, t, x, s, k, wrote),
+        Table::Calls => of_call(f, t, x, s, k, wrote),
+        Table::Catches => wrote,
+        Table::Opening => wrote,
     }
-}
-
-// Which of n rows comes at step k.
-fn at_step(backwards: bool, n: u16, k: u16) -> u16
-    requires { ⌜ k < n ⌝ }
-    ensures { λ r. ⌜ r ≡ turned backwards n k ⌝ }
-{
-    if backwards { n - 1 - k } else { k }
 }
 
 // All rows of the table, forwards or backwards,
-fn each_of(f: &[u8], t: Tables, x: Shape, s: &mut [u8], backwards: bool, table: Table) -> bool
+fn each_of(
+    f: &[u8],
+    t: Tables,
+    x: Shape,
+    s: &mut [u8],
+    backwards: bool,
+    table: Table,
+    wrote: bool,
+) -> bool
     requires { ⌜ Ready (now f) t x (now s) ⌝ }
-    ensures { λ r. ⌜ (r ≡ not (tableHolds (now (f .entry)) t x backwards table (now (s .entry)))) × (now (s .exit) ≡ tableTo (now (f .entry)) t x backwards table (now (s .entry))) ⌝ }
+    ensures { λ r. ⌜ (now (s .exit), r) ≡ tableWalk (now (f .entry)) t x sheetOf (lowers x) backwards table (now (s .entry), wrote) ⌝ }
 {
     let n = tables::rows(t, table);
-    let mut wrote = false;
+    let mut told = wrote;
     let mut k = 0;
     while k < n {
-        let now = row(f, t, x, s, table, at_step(backwards, n, k));
-        wrote = wrote | now;
+        told = row(f, t, x, s, table, demand::at_step(backwards, n, k), told);
         k += 1;
     }
-    wrote
+    told
 }
 
 // and of all tables.
-fn each_table(f: &[u8], t: Tables, x: Shape, s: &mut [u8], backwards: bool) -> bool
+fn each_table(f: &[u8], t: Tables, x: Shape, s: &mut [u8], backwards: bool, wrote: bool) -> bool
     requires { ⌜ Ready (now f) t x (now s) ⌝ }
-    ensures { λ r. ⌜ (r ≡ not (tablesHold (now (f .entry)) t x backwards (now (s .entry)))) × (now (s .exit) ≡ tablesTo (now (f .entry)) t x backwards (now (s .entry))) ⌝ }
+    ensures { λ r. ⌜ (now (s .exit), r) ≡ tablesWalk (now (f .entry)) t x sheetOf (lowers x) backwards (now (s .entry), wrote) ⌝ }
 {
-    let mut wrote = false;
+    let mut told = wrote;
     let mut i = 0;
-    while i < 5 {
-        let now = each_of(f, t, x, s, backwards, demand::table_at(i));
-        wrote = wrote | now;
+    while i < 4 {
+        told = each_of(f, t, x, s, backwards, demand::table_at(i), told);
         i += 1;
     }
-    wrote
+    told
 }
 
-// All rules once. A sweep that wrote nothing found every rule obeyed.
+// All rules once. A sweep that wrote nothing found everything met that the rows ask.
 pub fn once(f: &[u8], t: Tables, x: Shape, s: &mut [u8], backwards: bool) -> bool
     requires { ⌜ Ready (now f) t x (now s) ⌝ }
-    ensures { λ r. ⌜ (r ≡ not (sweepHolds (now (f .entry)) t x backwards (now (s .entry)))) × (now (s .exit) ≡ sweepTo (now (f .entry)) t x backwards (now (s .entry))) ⌝ }
+    ensures { λ r. ⌜ (now (s .exit), r) ≡ sweepOf (now (f .entry)) t x backwards (now (s .entry)) ⌝ }
 {
-    let start = at_start(f, t, x, s);
-    let rest = each_table(f, t, x, s, backwards);
-    start | rest
+    let start = at_start(f, t, x, s, false);
+    each_table(f, t, x, s, backwards, start)
 }

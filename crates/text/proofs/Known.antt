@@ -21,7 +21,8 @@ known-pass : firstLine Pass ≡ ascii "pass\n"
 unfolding firstLine
 known-pass = refl
 
-known-overdrawn : firstLine (Overdrawn 3) ≡ ascii "overdrawn 3\n"
+-- "The listing's first line becomes `overdrawn 3 0`."
+known-overdrawn : firstLine (Overdrawn 3 0) ≡ ascii "overdrawn 3 0\n"
 unfolding firstLine overdrawnLine decimal placeText
 known-overdrawn = refl
 

@@ -9,7 +9,7 @@ use native.Mathlib.Omega.{arith}
 use Rattle.digits.specs.Text.{ascii, joined}
 use Rattle.digits.specs.Digits.{decimal}
 use Rattle.answer.specs.declared.Answer.{Answer}
-use Rattle.answer.specs.Number.{numberOf, placeOf}
+use Rattle.answer.specs.Number.{numberOf, typeOf, placeOf}
 use Rattle.single.specs.declared.Held.{Held}
 use Rattle.effect.specs.declared.Stock.{Stock}
 use Rattle.tables.specs.declared.Tables.{Tables}
@@ -22,9 +22,9 @@ pub line-length : (n k : ℕ) (h : Held)
 unfolding lineOf
 line-length n k h = simp length-append
 
-pub overdrawn-length : (node : ℕ) → length (overdrawnLine node) ≡ 10 + length (decimal node) + 1
+pub overdrawn-length : (node type : ℕ) → length (overdrawnLine node type) ≡ 10 + length (decimal node) + 1 + length (decimal type) + 1
 unfolding overdrawnLine
-overdrawn-length node = simp length-append
+overdrawn-length node type = simp length-append
 
 pub refused-length : (number place : ℕ) → length (refusedLine number place) ≡ 8 + length (decimal number) + 1 + length (decimal place) + 1
 unfolding refusedLine
@@ -36,7 +36,7 @@ module _ (a : Answer) where
   unfolding firstLine
   is-pass h = rw (eq-eqb (numberOf a) 0 h)
 
-  pub is-overdrawn : (numberOf a ≡ 0 → ⊥) → numberOf a ≡ 13 → firstLine a ≡ overdrawnLine (placeOf a)
+  pub is-overdrawn : (numberOf a ≡ 0 → ⊥) → numberOf a ≡ 13 → firstLine a ≡ overdrawnLine (placeOf a) (typeOf a)
   unfolding firstLine
   is-overdrawn z h = rw (ne-eqb (numberOf a) 0 z, eq-eqb (numberOf a) 13 h)
 

@@ -1,4 +1,4 @@
--- No listing is longer than 512 times 6 lines of 15 bytes after `overdrawn` and a node of three digits.
+-- No listing is longer than 512 times 6 lines of 15 bytes after `overdrawn`, a node of three digits and a type of one.
 use Prim.Native.Nat.{ℕ, _+_, _≤_, _<_}
 use mathlib.Core.Path.{_≡_, refl, ap, _∙_}
 use mathlib.Core.Bool.{Bool, true, false, cond}
@@ -11,7 +11,7 @@ use Rattle.digits.specs.Text.{ascii, joined}
 use Rattle.digits.specs.Digits.{decimal}
 use Rattle.digits.proofs.Lengths.{decimal-five, decimal-three, decimal-one, most}
 use Rattle.answer.specs.declared.Answer.{Answer}
-use Rattle.answer.specs.Number.{numberOf, placeOf}
+use Rattle.answer.specs.Number.{numberOf, typeOf, placeOf}
 use Rattle.single.specs.declared.Held.{Held}
 use Rattle.single.specs.Single.{applyOne}
 use Rattle.effect.specs.declared.Stock.{Stock}
@@ -44,13 +44,14 @@ unfolding applyOne
 left-count e s k h =
     omega (arith, ap (λ (x : Held). x .count) (applied-at e s k h), after-top (oneAt e k .cap) (oneAt e k .drop) (heldAt s k .count))
 
-pub first-few : (a : Answer) → length (firstLine a) ≤ 20
+pub first-few : (a : Answer) → length (firstLine a) ≤ 22
 first-few a = go (eqb (numberOf a) 0) (eqb (numberOf a) 13) refl refl
   where
-    go : (p q : Bool) → eqb (numberOf a) 0 ≡ p → eqb (numberOf a) 13 ≡ q → length (firstLine a) ≤ 20
+    go : (p q : Bool) → eqb (numberOf a) 0 ≡ p → eqb (numberOf a) 13 ≡ q → length (firstLine a) ≤ 22
     go true q h l = rw (is-pass a (eqb-true (numberOf a) 0 h)) (omega arith)
     go false true h l =
-        rw (is-overdrawn a (eqb-false (numberOf a) 0 h) (eqb-true (numberOf a) 13 l)) (omega (arith, overdrawn-length (placeOf a), decimal-five (placeOf a)))
+        rw (is-overdrawn a (eqb-false (numberOf a) 0 h) (eqb-true (numberOf a) 13 l))
+        (omega (arith, overdrawn-length (placeOf a) (typeOf a), decimal-five (placeOf a), decimal-five (typeOf a)))
     go false false h l =
         rw (is-refused a (eqb-false (numberOf a) 0 h) (eqb-false (numberOf a) 13 l))
         (omega (arith, refused-length (numberOf a) (placeOf a), decimal-five (numberOf a), decimal-five (placeOf a)))
@@ -86,17 +87,18 @@ module _ (a : Answer) (f : List ℕ) (t : Tables) (x : Shape) (s : List ℕ) whe
     full : isVerdict a ≡ true → length (listingOf a f t x s) ≡ length (firstLine a) + length (joined (nodeLines f t x s) (x .nodes))
     full q = ap length (is-full a f t x s q) ∙ length-append (firstLine a) (joined (nodeLines f t x s) (x .nodes))
 
-    pub pass-few : numberOf a ≡ 0 → length (listingOf a f t x s) ≤ 46094
+    pub pass-few : numberOf a ≡ 0 → length (listingOf a f t x s) ≤ 46096
     pass-few h = omega (arith, full (rw (eq-eqb (numberOf a) 0 h) refl), nodes-few, ap length (is-pass a h))
 
-    pub overdrawn-few : numberOf a ≡ 13 → placeOf a < 512 → length (listingOf a f t x s) ≤ 46094
-    overdrawn-few h l =
+    pub overdrawn-few : numberOf a ≡ 13 → placeOf a < 512 → typeOf a < 6 → length (listingOf a f t x s) ≤ 46096
+    overdrawn-few h l k =
         let z : numberOf a ≡ 0 → ⊥ = λ e. omega arith in
         omega (
           arith,
           full (rw (ne-eqb (numberOf a) 0 z, eq-eqb (numberOf a) 13 h) refl),
           nodes-few,
           ap length (is-overdrawn a z h),
-          overdrawn-length (placeOf a),
+          overdrawn-length (placeOf a) (typeOf a),
           decimal-three (placeOf a) (omega arith),
+          decimal-one (typeOf a) (omega arith),
         )

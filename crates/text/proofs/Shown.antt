@@ -8,7 +8,7 @@ use Rattle.digits.specs.Text.{ascii, joined}
 use Rattle.digits.specs.Digits.{decimal}
 use Rattle.digits.proofs.Shown.{Shown, none, isShown, shown, _and_, shown-joined, shown-decimal, shown-hex}
 use Rattle.answer.specs.declared.Answer.{Answer}
-use Rattle.answer.specs.Number.{numberOf, placeOf}
+use Rattle.answer.specs.Number.{numberOf, typeOf, placeOf}
 use Rattle.single.specs.declared.Held.{Held}
 use Rattle.effect.specs.Six.{heldAt}
 use Rattle.tables.specs.declared.Tables.{Tables}
@@ -48,9 +48,9 @@ shown-first : (a : Answer) → Shown (firstLine a)
 unfolding firstLine overdrawnLine refusedLine isShown
 shown-first a = go (eqb (numberOf a) 0) (eqb (numberOf a) 13)
   where
-    go : (p q : Bool) → Shown (cond p (ascii "pass\n") (cond q (overdrawnLine (placeOf a)) (refusedLine (numberOf a) (placeOf a))))
+    go : (p q : Bool) → Shown (cond p (ascii "pass\n") (cond q (overdrawnLine (placeOf a) (typeOf a)) (refusedLine (numberOf a) (placeOf a))))
     go true q = shown (ascii "pass\n") refl
-    go false true = shown (ascii "overdrawn ") refl and shown-decimal (placeOf a) and feed
+    go false true = shown (ascii "overdrawn ") refl and shown-decimal (placeOf a) and blank and shown-decimal (typeOf a) and feed
     go false false = shown (ascii "refused ") refl and shown-decimal (numberOf a) and blank and shown-decimal (placeOf a) and feed
 
 pub shown-listing : (a : Answer) (f : List ℕ) (t : Tables) (x : Shape) (s : List ℕ) → Shown (listingOf a f t x s)

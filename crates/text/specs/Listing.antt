@@ -6,7 +6,7 @@ use lib.Dec.{eqb}
 use Rattle.digits.specs.Text.{ascii, joined}
 use Rattle.digits.specs.Digits.{decimal, fourHex}
 use Rattle.answer.specs.declared.Answer.{Answer}
-use Rattle.answer.specs.Number.{numberOf, placeOf}
+use Rattle.answer.specs.Number.{numberOf, typeOf, placeOf}
 use Rattle.single.specs.declared.Held.{Held}
 use Rattle.effect.specs.declared.Stock.{Stock}
 use Rattle.effect.specs.Six.{heldAt}
@@ -14,9 +14,10 @@ use Rattle.tables.specs.declared.Tables.{Tables}
 use Rattle.layout.specs.declared.Shape.{Shape}
 use Rattle.listing.specs.Node.{isReached, nodeStock}
 
--- "First line `pass`, `overdrawn` and the node, or `refused`, the number and the place."
-unfoldable pub overdrawnLine : ℕ → List ℕ
-overdrawnLine node = ascii "overdrawn " ++ decimal node ++ ascii "\n"
+-- "First line `pass`, `overdrawn` and the node, or `refused`, the number and the place." After the node stands the type: "The listing's
+-- first line becomes `overdrawn 3 0`."
+unfoldable pub overdrawnLine : ℕ → ℕ → List ℕ
+overdrawnLine node type = ascii "overdrawn " ++ decimal node ++ ascii " " ++ decimal type ++ ascii "\n"
 
 unfoldable pub refusedLine : ℕ → ℕ → List ℕ
 refusedLine number place = ascii "refused " ++ decimal number ++ ascii " " ++ decimal place ++ ascii "\n"
@@ -26,7 +27,7 @@ firstLine a =
     cond (eqb (numberOf a) 0)
     (ascii "pass\n")
     (cond (eqb (numberOf a) 13)
-    (overdrawnLine (placeOf a))
+    (overdrawnLine (placeOf a) (typeOf a))
     (refusedLine (numberOf a) (placeOf a)))
 
 -- "count in decimal or `*`": 255 is endless

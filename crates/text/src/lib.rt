@@ -11,13 +11,15 @@ ghost use Rattle.digits.specs.Puts.{Puts};
 ghost use Rattle.layout.specs.Layout.{Within};
 ghost use Rattle.text.specs.Listing.{overdrawnLine, refusedLine, firstLine, countText, lineOf, stockLines, nodeLines, listingOf};
 
-fn put_overdrawn(out: &mut [u8], at: usize, node: usize) -> usize
-    requires { ⌜ (node < 65536) × (at + length (overdrawnLine node) ≤ length (now out)) ⌝ }
-    ensures { λ r. ⌜ Puts (now (out .entry)) at (overdrawnLine node) (now (out .exit)) r ⌝ }
+fn put_overdrawn(out: &mut [u8], at: usize, node: usize, drawn: usize) -> usize
+    requires { ⌜ (node < 65536) × ((drawn < 65536) × (at + length (overdrawnLine node drawn) ≤ length (now out))) ⌝ }
+    ensures { λ r. ⌜ Puts (now (out .entry)) at (overdrawnLine node drawn) (now (out .exit)) r ⌝ }
 {
     let a = digits::put_text(out, at, b"overdrawn ");
     let b = digits::put_decimal(out, a, node);
-    digits::put_byte(out, b, b'\n')
+    let c = digits::put_byte(out, b, b' ');
+    let d = digits::put_decimal(out, c, drawn);
+    digits::put_byte(out, d, b'\n')
 }
 
 fn put_refused(out: &mut [u8], at: usize, number: usize, place: usize) -> usize
@@ -31,7 +33,7 @@ fn put_refused(out: &mut [u8], at: usize, number: usize, place: usize) -> usize
     digits::put_byte(out, d, b'\n')
 }
 
-// `pass`, `overdrawn` and the node, or `refused`, the number and the place.
+// `pass`, `overdrawn`, the node and the type, or `refused`, the number and the place.
 pub fn put_first(out: &mut [u8], at: usize, a: Answer) -> usize
     requires { ⌜ at + length (firstLine a) ≤ length (now out) ⌝ }
     ensures { λ r. ⌜ Puts (now (out .entry)) at (firstLine a) (now (out .exit)) r ⌝ }
@@ -42,7 +44,7 @@ pub fn put_first(out: &mut [u8], at: usize, a: Answer) -> usize
         return digits::put_text(out, at, b"pass\n");
     }
     if number == 13 {
-        return put_overdrawn(out, at, place);
+        return put_overdrawn(out, at, place, answer::type_of(a) as usize);
     }
     put_refused(out, at, number as usize, place)
 }

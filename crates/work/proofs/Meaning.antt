@@ -31,12 +31,10 @@ use Rattle.layout.specs.declared.Shape.{Shape}
 use Rattle.layout.specs.Layout.{blockCount, sheetBytes}
 use Rattle.formed.specs.Ill.{illBlock, firstIll}
 use Rattle.formed.specs.Sheet.{sheetIn}
-use Rattle.rules.specs.Broken.{brokenOf}
 use Rattle.rules.specs.Sheet.{WellFormed, Holds, IsReached, stockIn}
 use Rattle.permit.specs.Check.{uncoveredAt}
 use Rattle.permit.specs.Meaning.{IsCovered}
 use Rattle.permit.proofs.Draws.{uncovered-says, covered-says}
-use Rattle.permit.proofs.Meaning.{all-hold}
 use Rattle.work.specs.Meaning.{Worked, WorksOut, overdrawn, passes}
 
 module _ (f : List ℕ) where
@@ -48,12 +46,9 @@ module _ (f : List ℕ) where
 
   module _ (r : List ℕ) where
     module _ (pass : judgeOf f ≡ Pass) (long : length r ≡ sheetBytes x) (bytes : (i : ℕ) → getD r i 0 < 256) (whole : firstIll r x ≡ blockCount x)
-        (attained : Attained (setting f pass) (sheetIn x r)) (none : brokenOf f t x r ≡ 11) where
+        (attained : Attained (setting f pass) (sheetIn x r)) (obeys : (q : ℕ) → Holds f r q) where
       formed : WellFormed f r
       formed = (pass, long, λ b l. is-lowest (illBlock r x) (blockCount x) .before b (omega arith))
-
-      obeys : (q : ℕ) → Holds f r q
-      obeys = all-hold f r formed (omega arith)
 
       -- It is the greatest of all sheets that obey, not only of those that are bytes.
       pub greatest-of-all : Greatest permits (programOf f .graph) (steps (programOf f)) (programOf f .opening) (sheetIn x r)

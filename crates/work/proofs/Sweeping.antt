@@ -1,7 +1,7 @@
 -- Sweeps keep a sheet good and lower it; what they settle at is what work out promises.
 use Prim.Native.Nat.{ℕ, _<_}
-use mathlib.Core.Path.{_≡_, refl, sym, subst}
-use mathlib.Core.Bool.{Bool, true, false}
+use mathlib.Core.Path.{_≡_, refl, sym, ap, subst}
+use mathlib.Core.Bool.{Bool, true, not}
 use mathlib.Core.List.{List}
 use lib.ListN.{length}
 use Rattle.answer.specs.declared.Answer.the-variants.{Pass, BadSheet}
@@ -13,36 +13,35 @@ use Rattle.graph.specs.Judgement.{shapeOf}
 use Rattle.layout.specs.declared.Shape.{Shape}
 use Rattle.layout.specs.Layout.{sheetBytes}
 use Rattle.sheet.specs.Write.{blanked}
+use Rattle.rules.proofs.Exact.{rules-kept}
 use Rattle.permit.specs.Check.{verdictOf}
 use Rattle.lower.proofs.Good.{height, Good}
 use Rattle.lower.proofs.Block.{blank-good}
 use Rattle.sweep.specs.Ready.{Ready}
-use Rattle.sweep.specs.Sweep.{sweepTo, sweepHolds}
-use Rattle.sweep.proofs.Sweeps.{sweep-done}
-use Rattle.sweep.proofs.Settled.{settled}
+use Rattle.sweep.specs.Sweep.{sheetOf, wroteOf, sweepOf}
+use Rattle.sweep.proofs.Sweeps.{sweep-done, settled}
 use Rattle.work.specs.Swept.{Swept, unswept, again, Settled}
 use Rattle.work.specs.Meaning.{Worked, WorksOut, wrong-length}
 use Rattle.work.proofs.Meaning.{worked, verdict}
 
 module _ (f : List ℕ) (pass : judgeOf f ≡ Pass) (s : List ℕ) (long : length s ≡ sheetBytes (shapeOf (tablesOf f))) where
-  swept-good : {r : List ℕ} → Swept f (tablesOf f) (shapeOf (tablesOf f)) (blanked s) r → Good f pass r
+  abbrev t : Tables
+  t = tablesOf f
+
+  abbrev x : Shape
+  x = shapeOf t
+
+  swept-good : {r : List ℕ} → Swept f t x (blanked s) r → Good f pass r
   swept-good unswept = blank-good f pass s long
   swept-good (again backwards h) = sweep-done f pass backwards _ (swept-good h) .good
 
-  sweep-falls : {r : List ℕ} (backwards : Bool) → Swept f (tablesOf f) (shapeOf (tablesOf f)) (blanked s) r
-      → sweepHolds f (tablesOf f) (shapeOf (tablesOf f)) backwards r ≡ false
-      → height (shapeOf (tablesOf f)) (sweepTo f (tablesOf f) (shapeOf (tablesOf f)) backwards r) < height (shapeOf (tablesOf f)) r
-  sweep-falls backwards h e = sweep-done f pass backwards _ (swept-good h) .falls e
+  sweep-falls : {r : List ℕ} (backwards : Bool) → Swept f t x (blanked s) r → wroteOf (sweepOf f t x backwards r) ≡ true → height x (sheetOf (sweepOf f t x backwards r)) < height x r
+  sweep-falls backwards h e = sweep-done f pass backwards _ (swept-good h) .falls (ap not e)
 
-  sweep-idle : {r : List ℕ} (backwards : Bool) → Swept f (tablesOf f) (shapeOf (tablesOf f)) (blanked s) r
-      → sweepHolds f (tablesOf f) (shapeOf (tablesOf f)) backwards r ≡ true
-      → sweepTo f (tablesOf f) (shapeOf (tablesOf f)) backwards r ≡ r
-  sweep-idle backwards h e = sweep-done f pass backwards _ (swept-good h) .idle e
-
-  settled-worked : {r : List ℕ} → Settled f (tablesOf f) (shapeOf (tablesOf f)) (blanked s) r → Worked f r
+  settled-worked : {r : List ℕ} → Settled f t x (blanked s) r → Worked f r
   settled-worked {r} h =
       let g = swept-good (h .swept) in
-      worked f r pass (g .long) (g .bytes) (g .whole) (g .attained) (settled f (tablesOf f) (shapeOf (tablesOf f)) (h .backwards) r (h .content))
+      worked f r pass (g .long) (g .bytes) (g .whole) (g .attained) (rules-kept f pass r (g .whole) (settled f t x r (h .backwards) (h .content) .1))
 
 -- the same for tables and a shape that are the file's own
 module _ {f : List ℕ} {t : Tables} {x : Shape} {s : List ℕ} (ready : Ready f t x s) where
@@ -55,11 +54,8 @@ module _ {f : List ℕ} {t : Tables} {x : Shape} {s : List ℕ} (ready : Ready f
   long : length s ≡ sheetBytes (shapeOf (tablesOf f))
   long = subst (λ y. length s ≡ sheetBytes (shapeOf y)) (ready .own) (subst (λ y. length s ≡ sheetBytes y) (ready .shaped) (ready .long))
 
-  pub falls : {r : List ℕ} (backwards : Bool) → Swept f t x (blanked s) r → sweepHolds f t x backwards r ≡ false → height x (sweepTo f t x backwards r) < height x r
-  falls {r} backwards = own (λ y z. Swept f y z (blanked s) r → sweepHolds f y z backwards r ≡ false → height z (sweepTo f y z backwards r) < height z r) (sweep-falls f pass s long backwards)
-
-  pub idles : {r : List ℕ} (backwards : Bool) → Swept f t x (blanked s) r → sweepHolds f t x backwards r ≡ true → sweepTo f t x backwards r ≡ r
-  idles {r} backwards = own (λ y z. Swept f y z (blanked s) r → sweepHolds f y z backwards r ≡ true → sweepTo f y z backwards r ≡ r) (sweep-idle f pass s long backwards)
+  pub falls : {r : List ℕ} (backwards : Bool) → Swept f t x (blanked s) r → wroteOf (sweepOf f t x backwards r) ≡ true → height x (sheetOf (sweepOf f t x backwards r)) < height x r
+  falls {r} backwards = own (λ y z. Swept f y z (blanked s) r → wroteOf (sweepOf f y z backwards r) ≡ true → height z (sheetOf (sweepOf f y z backwards r)) < height z r) (sweep-falls f pass s long backwards)
 
   pub answers : {r : List ℕ} → Settled f t x (blanked s) r → WorksOut f s r (verdictOf f t x r)
   answers {r} = own (λ y z. Settled f y z (blanked s) r → WorksOut f s r (verdictOf f y z r)) (λ h. verdict f s r long (settled-worked f pass s long h))

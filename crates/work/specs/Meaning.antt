@@ -6,11 +6,13 @@ use mathlib.Core.List.{List}
 use lib.ListN.{length, getD}
 use Rattle.answer.specs.declared.Answer.{Answer}
 use Rattle.answer.specs.declared.Answer.the-variants.{Pass}
-use Rattle.answer.specs.Number.{numberOf, placeOf, Says}
+use Rattle.answer.specs.Number.{Says, SaysAs}
 use Rattle.effect.specs.declared.Stock.{Stock}
 use Rattle.effect.specs.Coordinate.{right, count, at}
 use Rattle.model.specs.Rules.{Under}
 use Rattle.model.specs.Stocks.{permits}
+use Rattle.tables.specs.Trailer.{tablesOf}
+use Rattle.graph.specs.Places.{overdrawnAt}
 use Rattle.graph.specs.Judge.{judgeOf}
 use Rattle.nodes.specs.Program.{programOf, Brings, Overdrawing}
 use Rattle.layout.specs.Layout.{sheetBytes}
@@ -36,10 +38,10 @@ pub record Worked (f r : List ℕ) : Type 0 where
 -- The answer a, and the lent sheet: s before, r after.
 pub data WorksOut (f s r : List ℕ) (a : Answer) : Type 0 where
   -- 1 to 9, 17: the file is refused, and the sheet is as it was
-  refused : (judgeOf f ≡ Pass → ⊥) → r ≡ s → Says a (numberOf (judgeOf f)) (placeOf (judgeOf f)) → WorksOut f s r a
+  refused : (judgeOf f ≡ Pass → ⊥) → r ≡ s → SaysAs a (judgeOf f) → WorksOut f s r a
   -- 10: the sheet's length is wrong, and the sheet is as it was
-  wrong-length : judgeOf f ≡ Pass → (length s ≡ sheetBytes (shape f) → ⊥) → r ≡ s → Says a 10 0 → WorksOut f s r a
+  wrong-length : judgeOf f ≡ Pass → (length s ≡ sheetBytes (shape f) → ⊥) → r ≡ s → Says a 10 0 0 → WorksOut f s r a
   -- 13: the lowest node at which some run overdraws
-  overdrawn : length s ≡ sheetBytes (shape f) → Worked f r → (n : ℕ) → Overdrawing f n → ((m : ℕ) → m < n → Overdrawing f m → ⊥) → Says a 13 n → WorksOut f s r a
+  overdrawn : length s ≡ sheetBytes (shape f) → Worked f r → (n : ℕ) → Overdrawing f n → ((m : ℕ) → m < n → Overdrawing f m → ⊥) → SaysAs a (overdrawnAt f (tablesOf f) n) → WorksOut f s r a
   -- 0: no run overdraws
-  passes : length s ≡ sheetBytes (shape f) → Worked f r → ((n : ℕ) → Overdrawing f n → ⊥) → Says a 0 0 → WorksOut f s r a
+  passes : length s ≡ sheetBytes (shape f) → Worked f r → ((n : ℕ) → Overdrawing f n → ⊥) → Says a 0 0 0 → WorksOut f s r a

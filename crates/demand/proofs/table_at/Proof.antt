@@ -7,12 +7,11 @@ use Rattle.demand.specs.Demand.{tableAt}
 use Rattle.demand.proofs.table_at.Statement.{statement}
 use Rattle.demand.proofs.table_at.Tie as tie
 
-last : (i : ℕ) → 4 ≤ i → Calls ≡ tableAt i
+last : (i : ℕ) → 3 ≤ i → Calls ≡ tableAt i
 last zero h = absurd (omega arith)
 last (suc zero) h = absurd (omega arith)
 last (suc (suc zero)) h = absurd (omega arith)
-last (suc (suc (suc zero))) h = absurd (omega arith)
-last (suc (suc (suc (suc i)))) h = refl
+last (suc (suc (suc i))) h = refl
 
 pub table-at-spec : {M : Type 1} → statement M
 table-at-spec =
@@ -21,5 +20,4 @@ table-at-spec =
     (λ c. search needs)
     (λ c. search needs)
     (λ c. search needs)
-    (λ c. search needs)
-    (λ c. last (c .before .before .before .before .args .i) (omega (arith, c .if4 .left, c .before .if3 .left, c .before .before .if2 .left, c .before .before .before .if1 .left))))
+    (λ c. last (c .before .before .before .args .i) (omega (arith, c .if3 .left, c .before .if2 .left, c .before .before .if1 .left))))

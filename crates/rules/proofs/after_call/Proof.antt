@@ -3,21 +3,23 @@ use mathlib.Core.Bool.{true, false}
 use denote.Ref.{now}
 use borrow.Author.Needs.{needs}
 use Rattle.tables.specs.declared.Table.the-variants.{Flow}
-use Rattle.rows.specs.Rows.{allIn}
-use Rattle.rules.specs.Tests.{targetUnder, afterCall}
+use Rattle.demand.specs.Walk.{rowsWalk, afterWalk}
+use Rattle.rules.specs.Keys.{lessened}
 use Rattle.rules.proofs.after_call.Statement.{statement}
 use Rattle.rules.proofs.after_call.Tie as tie
 
 returns : tie.Need-returns
-unfolding afterCall
+unfolding afterWalk
 returns c =
     let rows = c .before in
     let a = rows .before .before .before .before .before .args in
     let r : a .c .returns ≡ true = rows .before .before .if1 .taken in
-    c .rows-under .ensures ∙ ap (allIn (targetUnder (now (a .f)) (a .t) (a .x) (now (a .s)) Flow (a .c .rounds .whole))) (rows .flow-of .ensures) ∙ simp r
+    c .of-rows .ensures
+    ∙ ap (λ z. rowsWalk (now (a .f)) (a .t) (a .x) (λ v. now (a .s)) (lessened (a .x) (now (a .s))) Flow 7 (a .c .rounds .whole) z (a .least)) (rows .flow-of .ensures)
+    ∙ simp r
 
 returns-2 : tie.Need-returns-2
-unfolding afterCall
+unfolding afterWalk
 returns-2 c =
     let r : c .before .before .before .args .c .returns ≡ false = c .if1 .left in
     simp r

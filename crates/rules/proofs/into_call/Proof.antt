@@ -3,16 +3,16 @@ use mathlib.Core.Bool.{true, false}
 use denote.Ref.{now}
 use borrow.Author.Needs.{needs}
 use Rattle.effect.specs.Whole.{applyOf}
-use Rattle.layout.specs.Layout.{methodAt}
 use Rattle.tables.specs.Fields.{nodeMethod}
+use Rattle.layout.specs.Layout.{methodAt}
 use Rattle.sheet.specs.Read.{stockAt, marked}
-use Rattle.sheet.specs.Under.{stockUnder}
-use Rattle.rules.specs.Tests.{intoCall}
+use Rattle.demand.specs.Walk.{of-stock, intoWalk}
+use Rattle.rules.specs.Keys.{lessened}
 use Rattle.rules.proofs.into_call.Statement.{statement}
 use Rattle.rules.proofs.into_call.Tie as tie
 
 returns : tie.Need-returns
-unfolding intoCall
+unfolding intoWalk
 returns c =
     let to = c .before in
     let apply = to .before in
@@ -23,13 +23,13 @@ returns c =
     let a = method .before .before .before .args in
     let w = at .method-at .ensures ∙ ap (methodAt (a .x)) (method .node-method .ensures .0) in
     let m : marked (now (a .s)) (methodAt (a .x) (nodeMethod (now (a .f)) (a .t) (a .c .node))) ≡ true = ap (marked (now (a .s))) (sym w) ∙ sym (mark .is-marked .ensures) ∙ stock .before .before .if1 .taken in
-    c .stock-under .ensures
-    ∙ (λ i. stockUnder (now (a .s)) (a .x) (to .method-at2 .ensures i)
-    ((apply .apply .ensures ∙ ap (applyOf (a .c .rounds .earlier)) (stock .stock .ensures ∙ ap (stockAt (now (a .s)) (a .x .types)) w)) i))
+    c .stock-key .ensures
+    ∙ (λ i. lessened (a .x) (now (a .s))
+    (of-stock 8 (to .method-at2 .ensures i) ((apply .apply .ensures ∙ ap (applyOf (a .c .rounds .earlier)) (stock .stock .ensures ∙ ap (stockAt (now (a .s)) (a .x .types)) w)) i)) (a .least))
     ∙ simp m
 
 returns-2 : tie.Need-returns-2
-unfolding intoCall
+unfolding intoWalk
 returns-2 c =
     let mark = c .before in
     let at = mark .before in
@@ -40,15 +40,4 @@ returns-2 c =
     simp m
 
 pub into-call-spec : {M : Type 1} → statement M
-into-call-spec =
-    tie.close
-    (tie.spec
-    (λ c κs. search needs)
-    (λ c κs. search needs)
-    (λ c κs. search needs)
-    (λ c κs. search needs)
-    (λ c κs. search needs)
-    (λ c κs. search needs)
-    (λ c κs. search needs)
-    returns
-    returns-2)
+into-call-spec = tie.close (tie.spec (λ c κs. search needs) (λ c κs. search needs) (λ c κs. search needs) (λ c κs. search needs) (λ c κs. search needs) (λ c κs. search needs) (λ c κs. search needs) returns returns-2)

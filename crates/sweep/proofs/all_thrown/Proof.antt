@@ -1,26 +1,23 @@
 use Prim.Native.Nat.{_-_}
-use denote.Ref.{now}
 use borrow.Author.Needs.{needs}
-use Rattle.sweep.specs.Sweep.{thrownTo, thrownHolds}
-use Rattle.sweep.proofs.Inside.{still-ready}
+use Rattle.demand.specs.Walk.{thrownWalk}
+use Rattle.sweep.specs.Sweep.{sheetOf, lowers}
 use Rattle.sweep.proofs.Turn.{Turning, turning-start, turning-more, turning-end}
-use Rattle.sweep.proofs.Steady.{thrown-steady}
+use Rattle.sweep.proofs.Inside.{still-ready}
 use Rattle.sweep.proofs.all_thrown.Statement.{statement}
 use Rattle.sweep.proofs.all_thrown.Tie as tie
 
 abbrev Inv-loop : tie.InvT-loop
-Inv-loop f t x s₀ c wrote₀ e₀ s wrote e = Turning (thrownTo f t x c) (thrownHolds f t x c) s₀ 0 8 e s wrote
+Inv-loop f t x s₀ c wrote told₀ e₀ s told e = Turning (thrownWalk f t x sheetOf (lowers x) c) s₀ told₀ 0 8 e s told
 
 abbrev μ-loop : tie.MeasureT-loop
-μ-loop f t x s₀ c wrote₀ e₀ s wrote e = 8 - e
+μ-loop f t x s₀ c wrote told₀ e₀ s told e = 8 - e
 
 loop-again : tie.Need-loop-again Inv-loop μ-loop
 loop-again c =
     let call = c .before .before in
     let test = call .before .before in
-    let l = test .before in
-    let a = l .before .before .before .args in
-    turning-more _ _ _ _ _ (thrown-steady (now (a .f)) (a .t) (a .x) (a .c)) (l .loop .inv) (test .loop-test .taken) (search needs) (call .thrown .ensures .0) (call .thrown .ensures .1)
+    turning-more _ _ _ _ _ (test .before .loop .inv) (test .loop-test .taken) (search needs) (call .thrown .ensures)
 
 pub all-thrown-spec : {M : Type 1} → statement M
 all-thrown-spec =

@@ -1,28 +1,51 @@
-use Prim.Native.Nat.{_-_}
+use Prim.Native.Nat.{ℕ, _-_}
+use mathlib.Core.Path.{ap, _∙_}
 use native.Mathlib.Omega.{arith}
-use denote.Ref.{now}
 use borrow.Author.Needs.{needs}
-use Rattle.rules.specs.Tests.{targetUnder}
-use Rattle.sweep.specs.Sweep.{targetTo}
-use Rattle.sweep.proofs.Inside.{still-ready}
+use Rattle.rows.specs.Rows.{targetOf}
+use Rattle.layout.specs.Layout.{nodeAt}
+use Rattle.demand.specs.Walk.{of-effect, rowsWalk}
+use Rattle.sweep.specs.Sweep.{lowers}
 use Rattle.sweep.proofs.Turn.{Turning, turning-start, turning-more, turning-end}
-use Rattle.sweep.proofs.Steady.{target-steady}
+use Rattle.sweep.proofs.Inside.{few-types, node-inside, leads-inside, still-ready}
 use Rattle.sweep.proofs.each_row.Statement.{statement}
 use Rattle.sweep.proofs.each_row.Tie as tie
 
 abbrev Inv-loop : tie.InvT-loop
-Inv-loop f t x s₀ table e end wrote₀ j₀ s wrote j = Turning (targetTo f t x table e) (λ r. targetUnder f t x r table e) s₀ j₀ end j s wrote
+Inv-loop f t x s₀ table e wrote end told₀ j₀ s told j =
+    (rule : ℕ) → Turning (λ k. lowers x (of-effect rule (nodeAt x (targetOf f t table k)) e)) s₀ told₀ j₀ end j s told
 
 abbrev μ-loop : tie.MeasureT-loop
-μ-loop f t x s₀ table e end wrote₀ j₀ s wrote j = end - j
+μ-loop f t x s₀ table e wrote end told₀ j₀ s told j = end - j
+
+take-effect-requires : tie.Need-take-effect-requires Inv-loop μ-loop
+take-effect-requires c κs =
+    let test = c .before .before .before in
+    let l = test .before in
+    let start = l .before .before .before in
+    let r = still-ready {q = l .loop .s} (start .pre .0) (l .loop .inv 0 .long) in
+    (rw (c .before .node-at .ensures, c .before .before .target .ensures) (node-inside r _ (leads-inside r (start .args .table) _ (omega (arith, start .pre .1, test .loop-test .taken)))), few-types r)
+
+add-j : tie.Need-add-j Inv-loop μ-loop
+add-j c =
+    let test = c .before .before .before .before .before .before in
+    omega (arith, test .loop-test .taken, test .before .before .before .before .good .1 .1 .1 .1 .1 .1 .0)
 
 loop-again : tie.Need-loop-again Inv-loop μ-loop
 loop-again c =
-    let call = c .before .before in
-    let test = call .before .before in
+    let take = c .before .before in
+    let at = take .before .before in
+    let test = at .before .before in
     let l = test .before in
     let a = l .before .before .before .args in
-    turning-more _ _ _ _ _ (target-steady (now (a .f)) (a .t) (a .x) (a .table) (a .e)) (l .loop .inv) (test .loop-test .taken) (search needs) (call .target .ensures .0) (call .target .ensures .1)
+    let w = at .node-at .ensures ∙ ap (nodeAt (a .x)) (at .before .target .ensures) in
+    λ rule.
+    turning-more _ _ _ _ _ (l .loop .inv rule) (test .loop-test .taken) (search needs)
+    (take .take-effect .ensures rule ∙ ap (λ v. lowers (a .x) (of-effect rule v (a .e)) (l .loop .s, l .loop .told)) w)
+
+returns : tie.Need-returns Inv-loop μ-loop
+unfolding rowsWalk
+returns c = λ rule. turning-end _ _ _ _ _ (c .before .loop .inv rule) (c .loop-test .left)
 
 pub each-row-spec : {M : Type 1} → statement M
 each-row-spec =
@@ -30,13 +53,12 @@ each-row-spec =
     (tie.spec
     Inv-loop
     μ-loop
-    (λ c. turning-start _ _ _ _ _)
-    (λ c κs.
-    let l = c .before .before in
-    let p = l .before .before .before .pre in
-    (still-ready (p .0) (l .loop .inv .long), omega (arith, p .1, c .before .loop-test .taken)))
-    (λ c. search needs)
+    (λ c rule. turning-start _ _ _ _ _)
+    (λ c κs. search needs)
+    (λ c κs. search needs)
+    take-effect-requires
+    add-j
     (λ c. search needs)
     loop-again
-    (λ c. c .before .loop .inv .long)
-    (λ c. turning-end _ _ _ _ _ (c .before .loop .inv) (c .loop-test .left)))
+    (λ c. c .before .loop .inv 0 .long)
+    returns)

@@ -1,22 +1,20 @@
 use Prim.Native.Nat.{_-_}
-use mathlib.Core.Path.{_∙_, ap}
-use mathlib.Core.Bool.{not}
+use mathlib.Core.Path.{ap, _∙_}
 use denote.Ref.{now}
 use borrow.Author.Needs.{needs}
 use Rattle.demand.specs.Demand.{tableAt}
-use Rattle.sweep.specs.Sweep.{tableTo, tableHolds}
-use Rattle.sweep.proofs.Inside.{still-ready}
+use Rattle.demand.specs.Walk.{tableWalk, tablesWalk}
+use Rattle.sweep.specs.Sweep.{sheetOf, lowers}
 use Rattle.sweep.proofs.Turn.{Turning, turning-start, turning-more, turning-end}
-use Rattle.sweep.proofs.Steady.{table-steady}
+use Rattle.sweep.proofs.Inside.{still-ready}
 use Rattle.sweep.proofs.each_table.Statement.{statement}
 use Rattle.sweep.proofs.each_table.Tie as tie
 
 abbrev Inv-loop : tie.InvT-loop
-Inv-loop f t x s₀ backwards wrote₀ i₀ s wrote i =
-    Turning (λ j. tableTo f t x backwards (tableAt j)) (λ r j. tableHolds f t x backwards (tableAt j) r) s₀ 0 5 i s wrote
+Inv-loop f t x s₀ backwards wrote told₀ i₀ s told i = Turning (λ j. tableWalk f t x sheetOf (lowers x) backwards (tableAt j)) s₀ told₀ 0 4 i s told
 
 abbrev μ-loop : tie.MeasureT-loop
-μ-loop f t x s₀ backwards wrote₀ i₀ s wrote i = 5 - i
+μ-loop f t x s₀ backwards wrote told₀ i₀ s told i = 4 - i
 
 loop-again : tie.Need-loop-again Inv-loop μ-loop
 loop-again c =
@@ -25,11 +23,12 @@ loop-again c =
     let test = which .before .before in
     let l = test .before in
     let a = l .before .before .before .args in
-    let r = which .table-at .ensures in
-    let e = call .each-of .ensures in
-    turning-more _ _ _ _ _ (table-steady (now (a .f)) (a .t) (a .x) (a .backwards)) (l .loop .inv) (test .loop-test .taken) (search needs)
-    (e .0 ∙ ap (λ v. not (tableHolds (now (a .f)) (a .t) (a .x) (a .backwards) v (l .loop .s))) r)
-    (e .1 ∙ ap (λ v. tableTo (now (a .f)) (a .t) (a .x) (a .backwards) v (l .loop .s)) r)
+    turning-more _ _ _ _ _ (l .loop .inv) (test .loop-test .taken) (search needs)
+    (call .each-of .ensures ∙ ap (λ v. tableWalk (now (a .f)) (a .t) (a .x) sheetOf (lowers (a .x)) (a .backwards) v (l .loop .s, l .loop .told)) (which .table-at .ensures))
+
+returns : tie.Need-returns Inv-loop μ-loop
+unfolding tablesWalk
+returns c = turning-end _ _ _ _ _ (c .before .loop .inv) (c .loop-test .left)
 
 pub each-table-spec : {M : Type 1} → statement M
 each-table-spec =
@@ -44,4 +43,4 @@ each-table-spec =
     (λ c. search needs)
     loop-again
     (λ c. c .before .loop .inv .long)
-    (λ c. turning-end _ _ _ _ _ (c .before .loop .inv) (c .loop-test .left)))
+    returns)

@@ -3,12 +3,13 @@ use mathlib.Core.Path.{_≡_, sym, ap, subst, _∙_}
 use lib.ListN.{length}
 use denote.Ref.{now}
 use borrow.Author.Needs.{needs}
-use borrow.Author.Tests.{not-true, not-false}
 use Rattle.sheet.proofs.Back.{blank-length}
 use Rattle.lower.proofs.Good.{height}
+use Rattle.sweep.specs.Sweep.{sheetOf, wroteOf}
 use Rattle.sweep.proofs.Inside.{still-ready}
+use Rattle.sweep.proofs.Sweeps.{settled}
 use Rattle.work.specs.Swept.{Swept, unswept, again}
-use Rattle.work.proofs.Sweeping.{falls, idles}
+use Rattle.work.proofs.Sweeping.{falls}
 use Rattle.work.proofs.settle.Statement.{statement}
 use Rattle.work.proofs.settle.Tie as tie
 
@@ -33,13 +34,13 @@ loop-less c =
     let a = blank .before .before .before .before in
     let e = once .once .ensures in
     let swept = subst (λ v. Swept (now (a .args .f)) (a .args .t) (a .args .x) v (l .loop .s)) (blank .blank .ensures) (l .loop .inv .1) in
-    rw (e .1) (falls (a .pre) (l .loop .backwards) swept (not-true _ (sym (e .0) ∙ c .if1 .taken)))
+    rw (ap sheetOf e) (falls (a .pre) (l .loop .backwards) swept (sym (ap wroteOf e) ∙ c .if1 .taken))
 
 loop-again : tie.Need-loop-again Inv-loop μ-loop
 loop-again c =
     let once = c .before .before .before in
     let l = once .before .before in
-    (search needs, rw (once .once .ensures .1) (again (l .loop .backwards) (l .loop .inv .1)))
+    (search needs, rw (ap sheetOf (once .once .ensures)) (again (l .loop .backwards) (l .loop .inv .1)))
 
 same-length : tie.Need-same-length Inv-loop μ-loop
 same-length c = search needs
@@ -52,8 +53,8 @@ returns c =
     let a = blank .before .before .before .before in
     let e = once .once .ensures in
     let swept = subst (λ v. Swept (now (a .args .f)) (a .args .t) (a .args .x) v (l .loop .s)) (blank .blank .ensures) (l .loop .inv .1) in
-    let content = not-false _ (sym (e .0) ∙ c .if1 .left) in
-    rw (e .1 ∙ idles (a .pre) (l .loop .backwards) swept content) (record { swept = swept; backwards = l .loop .backwards; content = content })
+    let content = sym (ap wroteOf e) ∙ c .if1 .left in
+    rw (ap sheetOf e ∙ settled (now (a .args .f)) (a .args .t) (a .args .x) (l .loop .s) (l .loop .backwards) content .0) (record { swept = swept; backwards = l .loop .backwards; content = content })
 
 pub settle-spec : {M : Type 1} → statement M
 settle-spec =
