@@ -30,6 +30,7 @@ static const struct meaning answers[] = {
     [SNELLAIR_BROKEN_RULE] = {"the sheet breaks a rule", "rule"},
     [SNELLAIR_OVERDRAWN] = {"a draw can lack its permit", "node"},
     [SNELLAIR_UNFIT] = {"the add-on asks in another way", "node"},
+    [SNELLAIR_BAD_PARENT] = {"a parent is neither lower nor 255", "kind"},
     [SNELLAIR_NO_CALL_ROW] = {"a call has no row in the calls", "node"},
 };
 

@@ -70,8 +70,8 @@ uint64_t snellair_session(const uint8_t *graph, size_t graph_len);
 
 /* The numbers, and what the place tells. 0 and 13 are verdicts, the others
  * refusals; 11 and 12 come from check only, 14 from the profiles only, 26 from
- * the listing only. The first that applies is given: 26, then 1 to 8, 17, 9,
- * then 10 to 14, and 0 where none does; within a table the lowest row.
+ * the listing only. The first that applies is given: 26, then 1 to 7, 15, 8,
+ * 17, 9, then 10 to 14, and 0 where none does; within a table the lowest row.
  * 12 and 13 also name a type: 13 that of the draw, 12 the lowest that fails in
  * any place where that rule is broken, or SNELLAIR_MARKS_ALONE when marks are
  * all that is missing. All others have type 0. */
@@ -91,6 +91,7 @@ enum snellair_number {
     SNELLAIR_BROKEN_RULE = 12, /* lowest sheet rule that is broken, 1 to 10 */
     SNELLAIR_OVERDRAWN = 13,   /* lowest reached node not covered */
     SNELLAIR_UNFIT = 14,       /* lowest node that breaks the profile */
+    SNELLAIR_BAD_PARENT = 15,  /* lowest kind with a parent not lower or 255 */
     SNELLAIR_NO_CALL_ROW = 17, /* lowest call node that no call row names */
     SNELLAIR_OUTPUT_SHORT = 26 /* 0: the output's length */
 };
@@ -102,7 +103,7 @@ enum snellair_number {
 #define SNELLAIR_MOST_METHODS 64u
 #define SNELLAIR_MOST_NODES 512u
 #define SNELLAIR_MOST_TYPES 6u
-#define SNELLAIR_LONGEST_GRAPH 12454u
+#define SNELLAIR_LONGEST_GRAPH 12462u
 #define SNELLAIR_LONGEST_SHEET \
     SNELLAIR_SHEET_BYTES(SNELLAIR_MOST_METHODS, SNELLAIR_MOST_NODES, \
                          SNELLAIR_MOST_TYPES)

@@ -9,6 +9,7 @@ void draft_start(struct draft *d, unsigned types)
     d->flow.most = MOST_FLOW;
     d->calls.most = MOST_CALLS;
     d->catches.most = MOST_CATCHES;
+    memset(d->parent, NO_PARENT, sizeof d->parent);
 }
 
 unsigned draft_method(struct draft *d)
@@ -131,9 +132,42 @@ unsigned draft_lost_call(const struct draft *d)
     return MOST_NODES;
 }
 
+static bool has_catch(const struct draft *d, unsigned node, unsigned kind)
+{
+    for (unsigned row = 0; row < d->catches.count; row++)
+        if (d->catches.row[row][0] == node && d->catches.row[row][1] == kind)
+            return true;
+    return false;
+}
+
+unsigned draft_caught_as(const struct draft *d, unsigned node,
+                         unsigned exception)
+{
+    unsigned kind = exception;
+    while (kind != NO_PARENT && !has_catch(d, node, kind))
+        kind = d->parent[kind];
+    return kind;
+}
+
 struct shape draft_shape(const struct draft *d)
 {
     return (struct shape){d->methods, d->nodes, d->types};
+}
+
+unsigned draft_row_count(const struct draft *d, enum table t)
+{
+    const unsigned counts[TABLES] = {d->methods, d->nodes, d->flow.count,
+                                     d->calls.count, d->catches.count,
+                                     d->types};
+    return counts[t];
+}
+
+size_t draft_table_at(const struct draft *d, enum table t)
+{
+    size_t at = t >= CATCHES ? EXCEPTIONS : 0;
+    for (unsigned before = 0; before < t; before++)
+        at += draft_row_count(d, before) * (size_t)row_bytes[before];
+    return at;
 }
 
 static uint8_t *put(uint8_t *at, unsigned word)
@@ -162,9 +196,6 @@ static uint8_t *put_rows(uint8_t *at, const struct draft_rows *rows,
 
 size_t draft_write(const struct draft *d, uint8_t *graph)
 {
-    const unsigned counts[TABLES] = {d->methods, d->nodes, d->flow.count,
-                                     d->calls.count, d->catches.count,
-                                     d->types};
     uint8_t *at = graph;
     for (unsigned m = 0; m < d->methods; m++)
         at = put(at, d->entry[m]);
@@ -172,14 +203,15 @@ size_t draft_write(const struct draft *d, uint8_t *graph)
         at = put_node(at, &d->node[n]);
     at = put_rows(at, &d->flow, 2);
     at = put_rows(at, &d->calls, 2);
-    at = put_rows(at, &d->catches, 3);
+    memcpy(at, d->parent, sizeof d->parent);
+    at = put_rows(at + sizeof d->parent, &d->catches, 3);
     for (unsigned t = 0; t < d->types; t++) {
         at = put(at, d->opening_rights[t]);
         at = put(at, d->opening_count[t]);
     }
     unsigned distance = (unsigned)(at - graph);
     for (unsigned t = 0; t < TABLES; t++)
-        at = put(at, counts[t]);
+        at = put(at, draft_row_count(d, t));
     at = put(at, distance);
     return (size_t)(at - graph);
 }

@@ -23,10 +23,11 @@ struct draft {
     uint16_t entry[MOST_METHODS];
     struct draft_node node[MOST_NODES];
     struct draft_rows flow, calls, catches;
+    uint8_t parent[EXCEPTIONS];
     uint16_t opening_rights[MOST_TYPES], opening_count[MOST_TYPES];
 };
 
-/* No methods, nodes or rows; opening stocks of 0. */
+/* No methods, nodes, rows or parents; opening stocks of 0. */
 void draft_start(struct draft *d, unsigned types);
 
 /* Each answers the number of what it adds. A method's first node is its entry
@@ -57,7 +58,17 @@ void draft_take_out(struct draft_rows *rows, unsigned from);
 /* The lowest call without a call row, MOST_NODES if each has one. */
 unsigned draft_lost_call(const struct draft *d);
 
+/* The kind whose catch rows apply to an exception at this node: its own, if it
+ * has some there, or that of its nearest ancestor that has; else NO_PARENT. */
+unsigned draft_caught_as(const struct draft *d, unsigned node,
+                         unsigned exception);
+
 struct shape draft_shape(const struct draft *d);
+
+/* How many rows a table has, and at which byte of the file it starts; the
+ * trailer starts where a seventh table would. */
+unsigned draft_row_count(const struct draft *d, enum table t);
+size_t draft_table_at(const struct draft *d, enum table t);
 
 /* Writes the file, at most MOST_GRAPH_BYTES, and answers its length. */
 size_t draft_write(const struct draft *d, uint8_t *graph);

@@ -16,9 +16,10 @@ enum {
     MOST_CALLS = 512,
     MOST_CATCHES = 512,
     MOST_TYPES = 6,
-    EXCEPTIONS = 8,
+    EXCEPTIONS = 8,  /* each has a parent, one byte, just before the catches */
+    NO_PARENT = 255,
     TRAILER_BYTES = 14,
-    MOST_GRAPH_BYTES = 12454,
+    MOST_GRAPH_BYTES = 12462,
     MOST_SHEET_BYTES = 56064
 };
 

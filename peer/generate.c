@@ -80,6 +80,22 @@ static unsigned random_exception(struct random *r)
                         : usual[random_below(r, 3)];
 }
 
+/* The exception or an ancestor of it. */
+static unsigned random_kin(struct random *r, const struct draft *d,
+                           unsigned exception)
+{
+    while (d->parent[exception] != NO_PARENT && one_in(r, 2))
+        exception = d->parent[exception];
+    return exception;
+}
+
+static unsigned random_parent(struct random *r, unsigned exception)
+{
+    if (exception == 0 || one_in(r, 3))
+        return NO_PARENT;
+    return one_in(r, 2) ? exception - 1 : random_below(r, exception);
+}
+
 static unsigned random_repeats(struct random *r, const struct sizes *most)
 {
     switch (random_below(r, 4)) {
@@ -169,7 +185,8 @@ static void add_callee_and_catches(struct random *r, struct draft *d,
     for (unsigned callees = 1 + random_below(r, 6) / 3; callees > 0; callees--)
         draft_callee(d, node, other_method(r, d, d->node[node].method));
     for (unsigned catches = random_below(r, 3); catches > 0; catches--)
-        draft_catch(d, node, random_exception(r), other_node(r, d, node));
+        draft_catch(d, node, random_kin(r, d, random_exception(r)),
+                    other_node(r, d, node));
 }
 
 static void add_rows(struct random *r, struct draft *d, unsigned node)
@@ -179,7 +196,8 @@ static void add_rows(struct random *r, struct draft *d, unsigned node)
         return;
     if (kind == THROW) {
         for (unsigned catches = random_below(r, 3); catches > 0; catches--)
-            draft_catch(d, node, d->node[node].number, other_node(r, d, node));
+            draft_catch(d, node, random_kin(r, d, d->node[node].number),
+                        other_node(r, d, node));
         return;
     }
     if (!one_in(r, 8))
@@ -205,7 +223,8 @@ static void add_nodes(struct random *r, const struct sizes *exact,
             add_node(r, exact, d, random_below(r, d->methods), false);
 }
 
-/* With just these numbers of methods, nodes and types. */
+/* With just these numbers of methods, nodes and types. Half of the graphs have
+ * families of exceptions. */
 static void generate_exact(struct random *r, const struct sizes *exact,
                            struct draft *d)
 {
@@ -213,6 +232,9 @@ static void generate_exact(struct random *r, const struct sizes *exact,
     for (unsigned m = 0; m < exact->methods; m++)
         draft_method(d);
     add_nodes(r, exact, d);
+    bool families = one_in(r, 2);
+    for (unsigned e = 0; e < EXCEPTIONS && families; e++)
+        d->parent[e] = (uint8_t)random_parent(r, e);
     for (unsigned m = 0; m < d->methods; m++)
         if (one_in(r, 4))
             d->entry[m] = (uint16_t)other_node(r, d, d->entry[m]);
@@ -431,17 +453,13 @@ static void damage_trailer(struct random *r, uint8_t *trailer)
 static void damage_order(struct random *r, const struct draft *d,
                          uint8_t *graph)
 {
-    const unsigned counts[TABLES] = {d->methods, d->nodes, d->flow.count,
-                                     d->calls.count, d->catches.count,
-                                     d->types};
-    unsigned table = random_below(r, TABLES);
+    enum table table = random_below(r, TABLES);
+    unsigned rows = draft_row_count(d, table);
     uint8_t first[6];
-    if (counts[table] < 2)
+    if (rows < 2)
         return;
-    uint8_t *at = graph;
-    for (unsigned t = 0; t < table; t++)
-        at += counts[t] * row_bytes[t];
-    at += random_below(r, counts[table] - 1) * row_bytes[table];
+    uint8_t *at = graph + draft_table_at(d, table)
+                + random_below(r, rows - 1) * row_bytes[table];
     memcpy(first, at, row_bytes[table]);
     if (one_in(r, 2))
         memcpy(at, at + row_bytes[table], row_bytes[table]);
@@ -456,7 +474,8 @@ static void damage_field(struct random *r, const struct draft *d,
                               random_below(r, 10)};
     unsigned value = near[random_below(r, 4)];
     if (one_in(r, 2))
-        graph[2 * d->methods + random_below(r, row_bytes[NODES] * d->nodes)] =
+        graph[draft_table_at(d, NODES)
+              + random_below(r, row_bytes[NODES] * d->nodes)] =
             (uint8_t)(value & 0xFF);
     else
         write_word(graph + 2 * random_below(r, (unsigned)length / 2), value);
@@ -468,10 +487,8 @@ static void damage_rare_field(struct random *r, const struct draft *d,
                               uint8_t *graph)
 {
     unsigned node = random_below(r, d->nodes);
-    uint8_t *row = graph + 2 * d->methods + row_bytes[NODES] * node;
-    uint8_t *catches = graph + 2 * d->methods + row_bytes[NODES] * d->nodes
-                     + row_bytes[FLOW] * d->flow.count
-                     + row_bytes[CALLS] * d->calls.count;
+    uint8_t *row = graph + draft_table_at(d, NODES) + row_bytes[NODES] * node;
+    uint8_t *catches = graph + draft_table_at(d, CATCHES);
     if (d->catches.count > 0 && one_in(r, 2))
         write_word(catches + 2
                        + row_bytes[CATCHES] * random_below(r, d->catches.count),
@@ -482,11 +499,23 @@ static void damage_rare_field(struct random *r, const struct draft *d,
         row[1] = CALL, row[3] = 1;
 }
 
+/* Another parent, or what is none: the exception itself, the next one, a number
+ * that no exception has. */
+static void damage_parent(struct random *r, const struct draft *d,
+                          uint8_t *graph)
+{
+    unsigned exception = random_below(r, EXCEPTIONS);
+    const unsigned parents[5] = {random_parent(r, exception), exception,
+                                 exception + 1, EXCEPTIONS, NO_PARENT - 1};
+    graph[draft_table_at(d, CATCHES) - EXCEPTIONS + exception] =
+        (uint8_t)parents[random_below(r, 5)];
+}
+
 /* One place of the tables. */
 static void damage_tables(struct random *r, const struct draft *d,
                           uint8_t *graph, size_t length)
 {
-    switch (random_below(r, 8)) {
+    switch (random_below(r, 9)) {
     case 0:
         damage_order(r, d, graph);
         break;
@@ -502,6 +531,9 @@ static void damage_tables(struct random *r, const struct draft *d,
     case 4:
     case 5:
         damage_rare_field(r, d, graph);
+        break;
+    case 6:
+        damage_parent(r, d, graph);
         break;
     default:
         damage_field(r, d, graph, length);

@@ -71,8 +71,14 @@ static struct rows rows_of(const struct graph *g, enum table t, unsigned node)
     return (struct rows){first[node], first[node + 1]};
 }
 
-static struct rows catches_of(const struct graph *g, unsigned node,
-                              unsigned exception)
+static unsigned parent_of(const struct graph *g, unsigned exception)
+{
+    return g->bytes[g->start[CATCHES] - EXCEPTIONS + exception];
+}
+
+/* Those that name just this exception. */
+static struct rows own_catches(const struct graph *g, unsigned node,
+                               unsigned exception)
 {
     struct rows all = rows_of(g, CATCHES, node);
     struct rows own = {all.first, all.first};
@@ -84,7 +90,20 @@ static struct rows catches_of(const struct graph *g, unsigned node,
     return own;
 }
 
-/* ---- Answers 1 to 9 and 17 ---- */
+/* Those that apply: of the exception or, if it has none here, of its nearest
+ * ancestor that has some. */
+static struct rows catches_of(const struct graph *g, unsigned node,
+                              unsigned exception)
+{
+    struct rows catches = {0, 0};
+    while (catches.first == catches.end && exception != NO_PARENT) {
+        catches = own_catches(g, node, exception);
+        exception = parent_of(g, exception);
+    }
+    return catches;
+}
+
+/* ---- Answers 1 to 9, 15 and 17 ---- */
 
 /* Rows are compared field by field, so equal rows are not above. */
 static bool is_above(const struct graph *g, enum table t, unsigned row)
@@ -153,6 +172,21 @@ static bool bad_call(const struct graph *g, unsigned row)
         || !is_above(g, CALLS, row);
 }
 
+static bool bad_parent(const struct graph *g, unsigned exception)
+{
+    unsigned parent = parent_of(g, exception);
+    return parent >= exception && parent != NO_PARENT;
+}
+
+/* Whether an exception is the thrown one or an ancestor of it. */
+static bool is_kin(const struct graph *g, unsigned exception, unsigned thrown)
+{
+    while (thrown != exception && thrown != NO_PARENT)
+        thrown = parent_of(g, thrown);
+    return thrown == exception;
+}
+
+/* Parents are judged before, so that climbing ends. */
 static bool bad_catch(const struct graph *g, unsigned row)
 {
     unsigned from = cell(g, CATCHES, row, 0);
@@ -161,7 +195,7 @@ static bool bad_catch(const struct graph *g, unsigned row)
     if (from >= g->count[NODES] || to >= g->count[NODES]
         || exception >= EXCEPTIONS)
         return true;
-    if (kind_of(g, from) == THROW && number_of(g, from) != exception)
+    if (kind_of(g, from) == THROW && !is_kin(g, exception, number_of(g, from)))
         return true;
     return (kind_of(g, from) != CALL && kind_of(g, from) != THROW)
         || joins_two_methods(g, from, to) || !is_above(g, CATCHES, row);
@@ -188,6 +222,8 @@ static uint64_t judge_trailer(struct graph *g, const uint8_t *bytes,
         g->count[t] = read_word(trailer + 2 * t);
         if (g->count[t] < fewest[t] || g->count[t] > most[t])
             return packed(2, t);
+        if (t == CATCHES)
+            distance += EXCEPTIONS;
         g->start[t] = distance;
         distance += g->count[t] * (size_t)row_bytes[t];
     }
@@ -205,6 +241,15 @@ static uint64_t judge_table(const struct graph *g, enum table t)
     for (unsigned row = 0; row < g->count[t]; row++)
         if (bad[t](g, row))
             return packed(4 + t, row);
+    return 0;
+}
+
+/* Answer 15. */
+static uint64_t judge_parents(const struct graph *g)
+{
+    for (unsigned exception = 0; exception < EXCEPTIONS; exception++)
+        if (bad_parent(g, exception))
+            return packed(15, exception);
     return 0;
 }
 
@@ -231,12 +276,16 @@ static uint64_t judge_calls_to_nobody(const struct graph *g)
     return 0;
 }
 
-/* Answers 1 to 8, 17 and 9. The graph is ready for use after 0. */
+/* Answers 1 to 7, 15, 8, 17 and 9. The graph is ready for use after 0. */
 static uint64_t judge_file(struct graph *g, const uint8_t *bytes, size_t length)
 {
     uint64_t refusal = judge_trailer(g, bytes, length);
-    for (unsigned t = METHODS; t <= CATCHES && refusal == 0; t++)
+    for (unsigned t = METHODS; t <= CALLS && refusal == 0; t++)
         refusal = judge_table(g, t);
+    if (refusal == 0)
+        refusal = judge_parents(g);
+    if (refusal == 0)
+        refusal = judge_table(g, CATCHES);
     if (refusal != 0)
         return refusal;
     g->shape = (struct shape){g->count[METHODS], g->count[NODES],
@@ -347,7 +396,8 @@ static void say_step(const struct desk *d, unsigned node, struct effects *e)
     say_to_nodes(d, 3, FLOW, rows_of(g, FLOW, node), e);
 }
 
-/* An exception at a throw or a call: a catch row takes it, or it leaves. */
+/* An exception at a throw or a call: catch rows that apply take it, or it
+ * leaves as what it is. */
 static void say_exception(const struct desk *d, unsigned caught_rule,
                           unsigned leaving_rule, unsigned node,
                           unsigned exception, const struct effects *e)

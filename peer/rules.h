@@ -67,15 +67,13 @@ static inline void breaches_of_exception(struct breaches *b, unsigned caught,
                                          const struct effects *e)
 {
     const struct draft_rows *catches = &b->graph->catches;
-    bool is_caught = false;
+    unsigned kind = draft_caught_as(b->graph, node, exception);
     for (unsigned row = 0; row < catches->count; row++) {
         const uint16_t *c = catches->row[row];
-        if (c[0] == node && c[1] == exception) {
+        if (c[0] == node && c[1] == kind)
             breaches_ask_node(b, caught, c[2], e);
-            is_caught = true;
-        }
     }
-    if (!is_caught)
+    if (kind == NO_PARENT)
         breaches_ask(b, leaves,
                      exit_block(b->graph->node[node].method, 1 + exception),
                      e);

@@ -56,15 +56,13 @@ static void along_flow(const struct draft *d, struct runs *r, struct arrival a,
 static bool along_catches(const struct draft *d, struct runs *r,
                           struct arrival a, unsigned from, unsigned exception)
 {
-    bool caught = false;
+    unsigned kind = draft_caught_as(d, from, exception);
     for (unsigned row = 0; row < d->catches.count; row++) {
         const uint16_t *c = d->catches.row[row];
-        if (c[0] == from && c[1] == exception) {
+        if (c[0] == from && c[1] == kind)
             arrive_at(r, a, c[2]);
-            caught = true;
-        }
     }
-    return caught;
+    return kind != NO_PARENT;
 }
 
 static void step_call(const struct draft *d, struct runs *r, struct arrival a)

@@ -1,6 +1,7 @@
 /* What runs bring, found by following all of them, for very small graphs.
  *
- * This is document 01's part "Runs" and nothing else: no effects, no rules. */
+ * This is document 01's part "Runs", with document 02's families of exceptions,
+ * and nothing else: no effects, no rules. */
 #ifndef PEER_RUNS_H
 #define PEER_RUNS_H
 

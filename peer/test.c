@@ -1,7 +1,7 @@
 /* Tests the peer alone: effects against their meaning, document 01's figures,
- * profiles, one engine against the other, check against work out and against
- * the rules word by word, and the worked-out sheet against runs. Ends with
- * status 1 at the first thing that fails. */
+ * families of exceptions, profiles, one engine against the other, check against
+ * work out and against the rules word by word, and the worked-out sheet against
+ * runs. Ends with status 1 at the first thing that fails. */
 #include "answer.h"
 #include "effect.h"
 #include "generate.h"
@@ -261,14 +261,15 @@ static void test_calls_to_nobody(struct draft *d, uint8_t *sheet)
 
 static void test_file_a(struct draft *d, uint8_t *sheet)
 {
-    static const uint8_t written[68] = {
+    static const uint8_t written[76] = {
         0, 0, 3, 0,
         0, 1, 0, 2, 1, 1, 0, 3, 0, 2, 0, 0, 0, 4, 0, 0, 0, 0,
         1, 2, 0, 0, 1, 1, 1, 4, 0, 0, 0, 0,
         0, 0, 1, 0, 1, 0, 2, 0, 3, 0, 4, 0,
         1, 0, 1, 0,
+        255, 255, 255, 255, 255, 255, 255, 255,
         0, 0, 0, 0,
-        2, 0, 5, 0, 3, 0, 1, 0, 0, 0, 1, 0, 0x36, 0};
+        2, 0, 5, 0, 3, 0, 1, 0, 0, 0, 1, 0, 0x3E, 0};
     static const unsigned listed[5][2] = {
         {0x0000, 0}, {0x0101, 2}, {0x0101, 0}, {0x0101, 1}, {0x0101, 0}};
     uint8_t graph[MOST_GRAPH_BYTES];
@@ -324,13 +325,19 @@ static void test_refusals(struct draft *d, uint8_t *sheet)
     uint8_t graph[MOST_GRAPH_BYTES];
     draft_file_a(d, 2, 2);
     size_t length = draft_write(d, graph), len = sheet_bytes(draft_shape(d));
-    uint8_t *count = graph + length - TRAILER_BYTES + 2 * NODES;
+    uint8_t *trailer = graph + draft_table_at(d, TABLES);
     expect(work_out(graph, 13, sheet, len) == packed(1, 0), "13 bytes", 0);
-    write_word(count, 0);
+    write_word(trailer + 2 * NODES, 0);
     expect(work_out(graph, length, sheet, len) == packed(2, 1), "N = 0", 0);
-    write_word(count, 513);
+    write_word(trailer + 2 * NODES, 513);
     expect(work_out(graph, length, sheet, len) == packed(2, 1), "N = 513", 0);
-    write_word(count, 5);
+    write_word(trailer + 2 * NODES, 5);
+    write_word(trailer + 2 * OPENING, 7);
+    expect(work_out(graph, length, sheet, len) == packed(2, 5), "T = 7", 0);
+    write_word(trailer + 2 * OPENING, 1);
+    write_word(trailer + 2 * TABLES, (unsigned)length - TRAILER_BYTES + 1);
+    expect(work_out(graph, length, sheet, len) == packed(3, 0), "distance", 0);
+    write_word(trailer + 2 * TABLES, (unsigned)length - TRAILER_BYTES);
     expect(work_out(graph, length, sheet, len + 2) == packed(10, 0),
            "sheet too long", 0);
     for (unsigned exception = 7; exception <= 8; exception++) {
@@ -341,39 +348,40 @@ static void test_refusals(struct draft *d, uint8_t *sheet)
     }
 }
 
-/* What is put at one byte of a file or one word of a sheet, and what is then
- * answered, with type 0. */
-struct alteration {
-    unsigned at, value, number, place;
+/* What is put at one byte of a row, and what is then answered. */
+struct damage {
+    enum table table;
+    unsigned row, byte, value, number, place;
 };
 
 static void test_places_of_refusals(struct draft *d, uint8_t *sheet)
 {
-    static const struct alteration altered[] = {
-        {64, 7, 2, 5},    /* seven types */
-        {66, 0x37, 3, 0}, /* distance */
-        {2, 0, 4, 1},     /* entry in another method */
-        {2, 5, 4, 1},     /* entry N */
-        {29, 6, 5, 4},    /* kind */
-        {13, 0, 5, 1},    /* no repeats */
-        {20, 1, 5, 2},    /* return with rights */
-        {44, 1, 6, 2},    /* flow into another method */
-        {38, 2, 6, 1},    /* flow from a return */
-        {46, 0, 7, 0},    /* calls from a grant */
-        {48, 2, 7, 0},    /* method M called */
-        {53, 1, 9, 0}};   /* opening count 256 */
+    static const struct damage damaged[] = {
+        {METHODS, 1, 0, 0, 4, 1},  /* entry in another method */
+        {METHODS, 1, 0, 5, 4, 1},  /* entry N */
+        {NODES, 4, 1, 6, 5, 4},    /* kind */
+        {NODES, 1, 3, 0, 5, 1},    /* no repeats */
+        {NODES, 2, 4, 1, 5, 2},    /* return with rights */
+        {FLOW, 2, 2, 1, 6, 2},     /* flow into another method */
+        {FLOW, 1, 0, 2, 6, 1},     /* flow from a return */
+        {CALLS, 0, 0, 0, 7, 0},    /* calls from a grant */
+        {CALLS, 0, 2, 2, 7, 0},    /* method M called */
+        {OPENING, 0, 3, 1, 9, 0}}; /* opening count 256 */
     uint8_t graph[MOST_GRAPH_BYTES];
     draft_file_a(d, 2, 2);
     size_t length = draft_write(d, graph), len = sheet_bytes(draft_shape(d));
-    for (unsigned i = 0; i < sizeof altered / sizeof altered[0]; i++) {
-        const struct alteration *a = &altered[i];
-        uint8_t before = graph[a->at];
-        graph[a->at] = (uint8_t)a->value;
+    for (unsigned i = 0; i < sizeof damaged / sizeof damaged[0]; i++) {
+        const struct damage *a = &damaged[i];
+        size_t at = draft_table_at(d, a->table)
+                  + a->row * row_bytes[a->table] + a->byte;
+        uint8_t before = graph[at];
+        graph[at] = (uint8_t)a->value;
         expect(work_out(graph, length, sheet, len)
                    == packed(a->number, a->place), "refused", i);
-        graph[a->at] = before;
+        graph[at] = before;
     }
-    memcpy(graph + 38, graph + 34, row_bytes[FLOW]);
+    uint8_t *flow = graph + draft_table_at(d, FLOW);
+    memcpy(flow + row_bytes[FLOW], flow, row_bytes[FLOW]);
     expect(work_out(graph, length, sheet, len) == packed(6, 1),
            "flow row twice", 0);
     draft_catch(d, 1, 7, 2);
@@ -387,6 +395,12 @@ static void test_places_of_refusals(struct draft *d, uint8_t *sheet)
     draft_catch(d, thrown, 4, thrown);
     expect(work_out_draft(d, sheet) == packed(8, 1), "another exception", 0);
 }
+
+/* What is put at one word of a sheet, and what is then answered, with type
+ * 0. */
+struct alteration {
+    unsigned at, value, number, place;
+};
 
 /* In file A's sheet node n's block starts at word 96 + 5n, method 1's at 48. */
 static void test_places_of_check(struct draft *d, uint8_t *sheet)
@@ -590,6 +604,176 @@ static void test_figures(struct draft *d, uint8_t *sheet)
     expect(grant_not_reached(d, sheet) == 0, "unreached grant 0", 0);
     printf("figures: K1 to K11, the run-only ones, errors that look right, "
            "places and types of answers\n");
+}
+
+/* ---- Families of exceptions ---- */
+
+/* Exception 7 comes to node 0, which throws it or calls a method that does.
+ * Its ancestors are all the others, from 6 up to 0. */
+static void draft_chain(struct draft *d, bool calls)
+{
+    draft_start(d, 1);
+    for (unsigned e = 1; e < EXCEPTIONS; e++)
+        d->parent[e] = (uint8_t)(e - 1);
+    unsigned main = draft_method(d);
+    if (!calls) {
+        draft_throw(d, main, 7);
+        return;
+    }
+    unsigned called = draft_method(d);
+    draft_callee(d, draft_call(d, main, 1), called);
+    draft_throw(d, called, 7);
+}
+
+static bool is_marked(const struct draft *d, const uint8_t *sheet,
+                      unsigned block)
+{
+    struct effects e;
+    return read_block(draft_shape(d), sheet, block, &e);
+}
+
+/* A handler for one kind after the other, from far to near: the last one is
+ * reached and the others are not. */
+static void test_nearest_handler(struct draft *d, uint8_t *sheet, bool calls)
+{
+    static const unsigned kinds[4] = {0, 3, 5, 7};
+    struct effects stock;
+    unsigned handler[4];
+    draft_chain(d, calls);
+    expect(work_out_draft(d, sheet) == 0, "chain", 0);
+    for (unsigned e = 0; e < EXCEPTIONS; e++)
+        expect(is_marked(d, sheet, exit_block(0, 1 + e)) == (e == 7),
+               "leaves as what it is", e);
+    for (unsigned i = 0; i < 4; i++) {
+        handler[i] = draft_node(d, 0, PLAIN);
+        draft_catch(d, 0, kinds[i], handler[i]);
+        expect(work_out_draft(d, sheet) == 0, "chain", i);
+        for (unsigned j = 0; j <= i; j++)
+            expect(stock_at(d, sheet, handler[j], &stock) == (j == i),
+                   "nearest handler", j);
+        expect(!is_marked(d, sheet, exit_block(0, 1 + 7)), "caught", i);
+    }
+}
+
+/* The exception passes a call without a row and is caught one further out, by
+ * a row for its parent. */
+static void test_passing_exception(struct draft *d, uint8_t *sheet)
+{
+    struct effects stock;
+    draft_start(d, 1);
+    d->parent[5] = 2;
+    unsigned outer = draft_method(d), middle = draft_method(d);
+    unsigned inner = draft_method(d);
+    unsigned first = draft_call(d, outer, 1);
+    unsigned handler = draft_node(d, outer, PLAIN);
+    draft_callee(d, first, middle);
+    draft_callee(d, draft_call(d, middle, 1), inner);
+    draft_throw(d, inner, 5);
+    draft_catch(d, first, 2, handler);
+    expect(work_out_draft(d, sheet) == 0, "passing", 0);
+    expect(stock_at(d, sheet, handler, &stock), "caught further out", 0);
+    expect(is_marked(d, sheet, exit_block(middle, 1 + 5)), "own kind", 0);
+    expect(!is_marked(d, sheet, exit_block(middle, 1 + 2)), "parent's", 0);
+}
+
+/* Which catch rows a throw of 3 may have, where 1 is the parent of 3 and 4, 0
+ * of 1, and 3 of 6. */
+static void test_kin(struct draft *d, uint8_t *sheet)
+{
+    static const bool is_kin[EXCEPTIONS] = {[0] = true, [1] = true, [3] = true};
+    for (unsigned e = 0; e < EXCEPTIONS; e++) {
+        draft_start(d, 1);
+        d->parent[1] = 0;
+        d->parent[3] = d->parent[4] = 1;
+        d->parent[6] = 3;
+        unsigned thrown = draft_throw(d, draft_method(d), 3);
+        draft_catch(d, thrown, e, thrown);
+        expect(work_out_draft(d, sheet) == (is_kin[e] ? 0 : packed(8, 0)),
+               "row for kin", e);
+    }
+}
+
+static void test_bad_parents(struct draft *d, uint8_t *sheet)
+{
+    for (unsigned e = 0; e < EXCEPTIONS; e++) {
+        const unsigned bad[4] = {e, e + 1, 8, 254};
+        draft_file_a(d, 2, 2);
+        for (unsigned i = 0; i < 4; i++) {
+            d->parent[e] = (uint8_t)bad[i];
+            expect(work_out_draft(d, sheet) == packed(15, e), "bad parent", i);
+        }
+        d->parent[7] = 7;
+        expect(work_out_draft(d, sheet) == packed(15, e), "the lowest", e);
+    }
+    draft_catch(d, 0, 3, 2);
+    expect(work_out_draft(d, sheet) == packed(15, 7), "before 8", 0);
+    d->parent[7] = 6;
+    expect(work_out_draft(d, sheet) == packed(8, 0), "mended", 0);
+    draft_file_a(d, 2, 2);
+    d->parent[0] = 0;
+    draft_take_out(&d->calls, 1);
+    expect(work_out_draft(d, sheet) == packed(15, 0), "before 17", 0);
+    draft_callee(d, 1, 2);
+    expect(work_out_draft(d, sheet) == packed(7, 0), "after 7", 0);
+}
+
+static void test_longest_file(struct draft *d)
+{
+    draft_start(d, MOST_TYPES);
+    d->methods = MOST_METHODS;
+    d->nodes = MOST_NODES;
+    d->flow.count = MOST_FLOW;
+    d->calls.count = MOST_CALLS;
+    d->catches.count = MOST_CATCHES;
+    expect(draft_table_at(d, TABLES) + TRAILER_BYTES == MOST_GRAPH_BYTES,
+           "longest file", draft_table_at(d, TABLES));
+}
+
+static bool same_rows(const struct draft_rows *a, const struct draft_rows *b)
+{
+    return a->count == b->count
+        && memcmp(a->row, b->row, a->count * sizeof a->row[0]) == 0;
+}
+
+/* The same graph without parents: each exception has the rows that apply. */
+static void draft_without_families(const struct draft *d, struct draft *alone)
+{
+    *alone = *d;
+    memset(alone->parent, NO_PARENT, sizeof alone->parent);
+    alone->catches.count = 0;
+    for (unsigned row = 0; row < d->catches.count; row++) {
+        const uint16_t *c = d->catches.row[row];
+        const struct draft_node *from = &d->node[c[0]];
+        for (unsigned e = 0; e < EXCEPTIONS; e++)
+            if ((from->kind == CALL || from->number == e)
+                && draft_caught_as(d, c[0], e) == c[1])
+                draft_catch(alone, c[0], e, c[2]);
+    }
+}
+
+static void test_families(unsigned cases, struct draft *d, uint8_t *sheet)
+{
+    static struct draft alone;
+    uint8_t plain[ROOM];
+    unsigned long differ = 0;
+    test_nearest_handler(d, sheet, false);
+    test_nearest_handler(d, sheet, true);
+    test_passing_exception(d, sheet);
+    test_kin(d, sheet);
+    test_bad_parents(d, sheet);
+    test_longest_file(d);
+    for (unsigned i = 0; i < cases; i++) {
+        struct random r = random_of(SEED + 6, i);
+        generate_graph(&r, &small, d);
+        draft_without_families(d, &alone);
+        expect(work_out_draft(d, sheet) == work_out_draft(&alone, plain),
+               "the same answer without parents", i);
+        expect(memcmp(sheet, plain, sheet_bytes(draft_shape(d))) == 0,
+               "the same sheet without parents", i);
+        differ += !same_rows(&d->catches, &alone.catches);
+    }
+    printf("families: figures, and %u graphs, in %lu of which rows apply to "
+           "other exceptions or are dead\n", cases, differ);
 }
 
 /* ---- Profiles ---- */
@@ -921,6 +1105,7 @@ int main(int argc, char **argv)
     memset(sheet, 0xA5, sizeof sheet);
     test_effects();
     test_figures(&d, sheet);
+    test_families(cases, &d, sheet);
     test_profiles(cases, &d, sheet);
     test_small_graphs(cases, &d, sheet);
     test_limit_graphs(cases / 50, &d, sheet);

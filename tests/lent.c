@@ -52,11 +52,11 @@ static size_t word(const uint8_t *bytes)
     return bytes[0] + 256u * bytes[1];
 }
 
-/* The numbers that refuse a graph, whatever the sheet: 1 to 9, and 17. */
+/* The numbers that refuse a graph, whatever the sheet: 1 to 9, 15 and 17. */
 static int refuses_graph(unsigned number)
 {
     return (number >= SNELLAIR_TOO_SHORT && number <= SNELLAIR_BAD_OPENING) ||
-           number == SNELLAIR_NO_CALL_ROW;
+           number == SNELLAIR_BAD_PARENT || number == SNELLAIR_NO_CALL_ROW;
 }
 
 /* The length of the sheet of a graph that is not refused. */

@@ -4,7 +4,7 @@ use mathlib.Core.Path.{_≡_, refl, sym, _∙_}
 use mathlib.Core.Bool.{cond}
 use lib.Dec.{eqb}
 use Rattle.answer.specs.declared.Answer.{Answer}
-use Rattle.answer.specs.declared.Answer.the-variants.{Pass, TooShort, BadCount, BadLength, BadEntry, BadNode, BadFlow, BadCall, BadCatch, BadOpening, BadSheet, BadBlock, Broken, Overdrawn, Unfit, NoCallRow, OutputShort}
+use Rattle.answer.specs.declared.Answer.the-variants.{Pass, TooShort, BadCount, BadLength, BadEntry, BadNode, BadFlow, BadCall, BadCatch, BadOpening, BadSheet, BadBlock, Broken, Overdrawn, Unfit, BadParent, NoCallRow, OutputShort}
 use Rattle.answer.specs.Number.{numberOf, typeOf, placeOf, Says, SaysAs}
 
 -- the answer that has the number, the type and the place
@@ -25,8 +25,9 @@ answerOf n k p =
     (cond (eqb n 12) (Broken p k)
     (cond (eqb n 13) (Overdrawn p k)
     (cond (eqb n 14) (Unfit p)
+    (cond (eqb n 15) (BadParent p)
     (cond (eqb n 17) (NoCallRow p)
-    OutputShort)))))))))))))))
+    OutputShort))))))))))))))))
 
 pub found : (a : Answer) → answerOf (numberOf a) (typeOf a) (placeOf a) ≡ a
 found Pass = refl
@@ -44,6 +45,7 @@ found (BadBlock w) = refl
 found (Broken r k) = refl
 found (Overdrawn n k) = refl
 found (Unfit n) = refl
+found (BadParent e) = refl
 found (NoCallRow n) = refl
 found OutputShort = refl
 

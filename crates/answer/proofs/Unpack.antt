@@ -3,7 +3,7 @@ use Prim.Native.Nat.{_/_, _%_, _<_}
 use mathlib.Core.Path.{_≡_, sym, _∙_}
 use native.Mathlib.Omega.{arith}
 use Rattle.answer.specs.declared.Answer.{Answer}
-use Rattle.answer.specs.declared.Answer.the-variants.{Pass, TooShort, BadCount, BadLength, BadEntry, BadNode, BadFlow, BadCall, BadCatch, BadOpening, BadSheet, BadBlock, Broken, Overdrawn, Unfit, NoCallRow, OutputShort}
+use Rattle.answer.specs.declared.Answer.the-variants.{Pass, TooShort, BadCount, BadLength, BadEntry, BadNode, BadFlow, BadCall, BadCatch, BadOpening, BadSheet, BadBlock, Broken, Overdrawn, Unfit, BadParent, NoCallRow, OutputShort}
 use Rattle.answer.specs.Number.{numberOf, typeOf, placeOf, packedOf}
 use Rattle.answer.proofs.Settled.{answerOf, found}
 
@@ -23,6 +23,7 @@ number-small (BadBlock w) = omega arith
 number-small (Broken r k) = omega arith
 number-small (Overdrawn n k) = omega arith
 number-small (Unfit n) = omega arith
+number-small (BadParent e) = omega arith
 number-small (NoCallRow n) = omega arith
 number-small OutputShort = omega arith
 

@@ -2,7 +2,7 @@
 use Prim.Native.Nat.{ℕ, _+_, _*_}
 use mathlib.Core.Path.{_≡_}
 use Rattle.answer.specs.declared.Answer.{Answer}
-use Rattle.answer.specs.declared.Answer.the-variants.{Pass, TooShort, BadCount, BadLength, BadEntry, BadNode, BadFlow, BadCall, BadCatch, BadOpening, BadSheet, BadBlock, Broken, Overdrawn, Unfit, NoCallRow, OutputShort}
+use Rattle.answer.specs.declared.Answer.the-variants.{Pass, TooShort, BadCount, BadLength, BadEntry, BadNode, BadFlow, BadCall, BadCatch, BadOpening, BadSheet, BadBlock, Broken, Overdrawn, Unfit, BadParent, NoCallRow, OutputShort}
 
 pub record Said : Type 0 where
   pub number : ℕ
@@ -38,6 +38,8 @@ saidOf (Broken r k) = said 12 k r
 saidOf (Overdrawn n k) = said 13 k n
 -- profile not met: lowest node that breaks it
 saidOf (Unfit n) = said 14 0 n
+-- a parent neither lower nor 255: lowest such kind
+saidOf (BadParent e) = said 15 0 e
 -- a call without a call row: lowest such node
 saidOf (NoCallRow n) = said 17 0 n
 -- the lent output is too short

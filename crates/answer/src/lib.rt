@@ -19,6 +19,7 @@ pub enum Answer {
     Broken(u16, u16),
     Overdrawn(u16, u16),
     Unfit(u16),
+    BadParent(u16),
     NoCallRow(u16),
     OutputShort,
 }
@@ -42,6 +43,7 @@ pub fn number(a: Answer) -> u16
         Answer::Broken(_, _) => 12,
         Answer::Overdrawn(_, _) => 13,
         Answer::Unfit(_) => 14,
+        Answer::BadParent(_) => 15,
         Answer::NoCallRow(_) => 17,
         Answer::OutputShort => 26,
     }
@@ -67,15 +69,19 @@ pub fn type_of(a: Answer) -> u16
         Answer::Broken(_, k) => k,
         Answer::Overdrawn(_, k) => k,
         Answer::Unfit(_) => 0,
+        Answer::BadParent(_) => 0,
         Answer::NoCallRow(_) => 0,
         Answer::OutputShort => 0,
     }
 }
 
+// The two answers of two fields stand first: further down their proof is not found without a file.
 pub fn place(a: Answer) -> u32
     ensures { λ r. ⌜ (r ≡ placeOf a) × (r < 65536) ⌝ }
 {
     match a {
+        Answer::Broken(r, _) => r as u32,
+        Answer::Overdrawn(n, _) => n as u32,
         Answer::Pass => 0,
         Answer::TooShort => 0,
         Answer::BadCount(i) => i as u32,
@@ -88,9 +94,8 @@ pub fn place(a: Answer) -> u32
         Answer::BadOpening(k) => k as u32,
         Answer::BadSheet => 0,
         Answer::BadBlock(w) => w as u32,
-        Answer::Broken(r, _) => r as u32,
-        Answer::Overdrawn(n, _) => n as u32,
         Answer::Unfit(n) => n as u32,
+        Answer::BadParent(e) => e as u32,
         Answer::NoCallRow(n) => n as u32,
         Answer::OutputShort => 0,
     }

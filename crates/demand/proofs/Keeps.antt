@@ -10,7 +10,7 @@ use Rattle.words.specs.Turn.{inTurn}
 use Rattle.effect.specs.declared.Effect.{Effect}
 use Rattle.tables.specs.declared.Tables.{Tables}
 use Rattle.tables.specs.declared.Table.{Table}
-use Rattle.tables.specs.declared.Table.the-variants.{Trailer, Methods, Nodes, Flow, Calls, Catches, Opening}
+use Rattle.tables.specs.declared.Table.the-variants.{Trailer, Methods, Nodes, Flow, Calls, Parents, Catches, Opening}
 use Rattle.tables.specs.Rows.{rowsOf}
 use Rattle.tables.specs.Kinds.{returnKind, throwKind}
 use Rattle.tables.specs.Fields.{nodeMethod, nodeKind, nodeNumber, flowFrom}
@@ -87,6 +87,7 @@ module _ (f : List ℕ) (t : Tables) (x : Shape) {A : Type 0} (view : A → List
     row-keeps Calls k l z p =
         if-keeps P (calledIn f t x (view z) k .marked)
         (λ q. called-keeps (calledIn f t x (view z) k) (λ y py a h u pu. keep z y u a p py (of-row Calls k a l (of-call k a q h)) pu) z p) p
+    row-keeps Parents k l z p = p
     row-keeps Catches k l z p = p
     row-keeps Opening k l z p = p
 

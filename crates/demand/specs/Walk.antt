@@ -10,7 +10,7 @@ use Rattle.effect.specs.declared.Effect.{Effect}
 use Rattle.effect.specs.Whole.{nothingDone, applyOf}
 use Rattle.tables.specs.declared.Tables.{Tables}
 use Rattle.tables.specs.declared.Table.{Table}
-use Rattle.tables.specs.declared.Table.the-variants.{Trailer, Methods, Nodes, Flow, Calls, Catches, Opening}
+use Rattle.tables.specs.declared.Table.the-variants.{Trailer, Methods, Nodes, Flow, Calls, Parents, Catches, Opening}
 use Rattle.tables.specs.Rows.{rowsOf}
 use Rattle.tables.specs.Kinds.{returnKind, throwKind}
 use Rattle.tables.specs.Fields.{entryOf, nodeMethod, nodeKind, nodeNumber, flowFrom, flowTo}
@@ -47,7 +47,7 @@ module _ (f : List ℕ) (t : Tables) (x : Shape) {A : Type 0} (view : A → List
   unfoldable pub rowsWalk : Table → ℕ → Effect → Stretch → A → A
   rowsWalk table r e = eachIn (λ j. take (of-effect r (nodeAt x (targetOf f t table j)) e))
 
-  -- the exception e comes to the node n with y: each catch row for it, by the rule c, or, where there is none, the exit of n's method, by the rule o
+  -- the exception e comes to the node n with y: each catch row that applies to it, by the rule c, or, where none does, the exit of n's method, by the rule o
   unfoldable pub leavingWalk : ℕ → ℕ → ℕ → ℕ → Effect → A → A
   leavingWalk c o n e y z =
       cond (uncaughtOf f t n e) (take (of-effect o (exitAt x (nodeMethod f t n) (1 + e)) y) z) (rowsWalk Catches c y (catchesOf f t n e) z)
@@ -66,7 +66,7 @@ module _ (f : List ℕ) (t : Tables) (x : Shape) {A : Type 0} (view : A → List
       cond (goesIn f t x (view z) (flowFrom f t k))
       (take (of-effect 3 (nodeAt x (flowTo f t k)) (steppedIn f t x (view z) (flowFrom f t k))) z) z
 
-  -- 5. Marked return: exit 0 of its method. 4 and 6. Marked throw: its catch rows, or exit 1 + e.
+  -- 5. Marked return: exit 0 of its method. 4 and 6. Marked throw: the catch rows that apply, or exit 1 + e.
   unfoldable pub endWalk : ℕ → Effect → A → A
   endWalk n y z =
       cond (eqb (nodeKind f t n) returnKind) (take (of-effect 5 (exitAt x (nodeMethod f t n) 0) y) z)
@@ -93,13 +93,14 @@ module _ (f : List ℕ) (t : Tables) (x : Shape) {A : Type 0} (view : A → List
   unfoldable pub calledWalk : Called → A → A
   calledWalk c z = cond (c .marked) (inTurn (thrownWalk c) 0 8 (intoWalk c (afterWalk c z))) z
 
-  -- row k of a table; the catches are asked through by throws and calls, and a row of the trailer or of the opening stock asks nothing
+  -- row k of a table; through parents and catches throws and calls ask, and a row of the trailer or of the opening stock asks nothing
   abbrev pub rowWalk : Table → ℕ → A → A
   rowWalk Trailer k z = z
   rowWalk Methods k z = entryWalk k z
   rowWalk Nodes k z = nodeWalk k z
   rowWalk Flow k z = flowWalk k z
   rowWalk Calls k z = calledWalk (calledIn f t x (view z) k) z
+  rowWalk Parents k z = z
   rowWalk Catches k z = z
   rowWalk Opening k z = z
 

@@ -17,8 +17,8 @@ use Rattle.model.specs.Stocks.{stepOf}
 use Rattle.answer.specs.declared.Answer.the-variants.{Pass}
 use Rattle.model.specs.Rounds.{lowest-rounds, whole-rounds, earlier-rounds}
 use Rattle.tables.specs.Trailer.{trailerAt, trailer, tablesOf}
-use Rattle.tables.specs.Fields.{entryOf, nodeMethod, nodeKind, nodeNumber, nodeCount, nodeRights, flowFrom, flowTo, callNode, callMethod, openingRights, openingCount}
-use Rattle.refuse.specs.Bad.{above, notAbove, flowRow, countBad, lengthBad, entryBad, outOfRange, unusedSet, nodeBad, flowBad, callBad, uncalled, openingBad}
+use Rattle.tables.specs.Fields.{entryOf, nodeMethod, nodeKind, nodeNumber, nodeCount, nodeRights, flowFrom, flowTo, callNode, callMethod, parentOf, openingRights, openingCount}
+use Rattle.refuse.specs.Bad.{above, notAbove, flowRow, countBad, lengthBad, entryBad, outOfRange, unusedSet, nodeBad, flowBad, callBad, parentBad, uncalled, openingBad}
 use Rattle.graph.specs.Judge.{judgeRows, judgeIn, judgeOf}
 use Rattle.graph.specs.Judgement.{shapeOf, shapeFor, judgedOf}
 use Rattle.rows.specs.Rows.{firstRow, stretchOf}
@@ -56,7 +56,7 @@ two = sheetOf (sweepOf fileA (tablesOf fileA) (shapeOf (tablesOf fileA)) true on
 -- All that is computed: the file passes, the sheet's length, the third sweep is content, the verdict, and the text.
 record Computed : Type 0 where
   passed : judgeOf fileA ≡ Pass
-  small : length fileA ≡ 68
+  small : length fileA ≡ 76
   long : length blank ≡ sheetBytes (shapeOf (tablesOf fileA))
   room : length blank ≡ sheetBytes (judgedOf fileA .shape)
   content : wroteOf (sweepOf fileA (tablesOf fileA) (shapeOf (tablesOf fileA)) false two) ≡ false
@@ -67,8 +67,8 @@ computed : Computed
 unfolding byteAt wordAt lowest joined placeText decimal
     less left countAfter rightsAfter normDrop thenCap sumDrop rank largerDrop countAtMost within normalForm idle drawn granted applyOne thenOne bothOne lowerHeld atMostOne heldAtMost coversHeld
     nothingDone drawOf grantOf applyOf thenOf bothOf lowerOf atMostOf stockAtMostOf coversOf stepOf lowest-rounds whole-rounds earlier-rounds
-    trailerAt trailer tablesOf entryOf nodeMethod nodeKind nodeNumber nodeCount nodeRights flowFrom flowTo callNode callMethod openingRights openingCount
-    above notAbove flowRow countBad lengthBad entryBad outOfRange unusedSet nodeBad flowBad callBad uncalled openingBad judgeRows judgeIn
+    trailerAt trailer tablesOf entryOf nodeMethod nodeKind nodeNumber nodeCount nodeRights flowFrom flowTo callNode callMethod parentOf openingRights openingCount
+    above notAbove flowRow countBad lengthBad entryBad outOfRange unusedSet nodeBad flowBad callBad parentBad uncalled openingBad judgeRows judgeIn
     firstRow stretchOf doesIn openingIn methodAt exitAt nodeAt sheetWords sheetBytes
     stockAt effectAt bytesOf stockWord effectWord wholeOf roundsOf
     marked goesIn steppedIn calledIn effectUnder stockUnder uncoveredAt effectTo stockTo inTurn

@@ -1,4 +1,4 @@
--- In a file that passes, a stretch of catch rows is what the graph has: the rows for one exception at one node.
+-- In a file that passes, a stretch of catch rows is what the graph has: the rows that apply to one exception at one node.
 use mathlib.Core.Path.{_≡_, refl}
 use mathlib.Core.Bool.{true, false}
 use mathlib.Core.List.{List}
@@ -10,10 +10,11 @@ use Rattle.tables.specs.declared.Tables.{Tables}
 use Rattle.tables.specs.declared.Table.the-variants.{Catches}
 use Rattle.tables.specs.Fields.{catchFrom, catchException, catchTo}
 use Rattle.rows.specs.Rows.{catchesOf, uncaughtOf}
-use Rattle.rows.proofs.Stretches as stretches
+use Rattle.rows.specs.Family.{Applies}
 use Rattle.rows.proofs.Stretches.{In}
+use Rattle.rows.proofs.Families as families
 use Rattle.refuse.proofs.Fit.{catch-fit}
-use Rattle.graph.specs.Graph.{CatchRow, graphIn}
+use Rattle.graph.specs.Graph.{FamilyRow, graphIn}
 use Rattle.graph.proofs.Passed.{Judged}
 use Rattle.graph.proofs.Rises.{rises}
 
@@ -21,11 +22,11 @@ module _ (f : List ℕ) (t : Tables) (j : Judged f t) (n e : ℕ) (small : e < 8
   seven : (k : ℕ) → k < t .catches → catchException f t k ≤ 7
   seven k l = catch-fit f t k (j .catches k l) .exception
 
-  pub in-catches : (k : ℕ) → k < t .catches → catchFrom f t k ≡ n → catchException f t k ≡ e → In (catchesOf f t n e) k
-  in-catches = stretches.in-catches f t (rises f t j Catches) seven n e (omega arith)
+  pub in-catches : (k : ℕ) → k < t .catches → catchFrom f t k ≡ n → Applies f t n e (catchException f t k) → In (catchesOf f t n e) k
+  in-catches = families.in-catches f t (rises f t j Catches) seven n e (omega arith)
 
-  pub of-catches : (k : ℕ) → In (catchesOf f t n e) k → (k < t .catches) × (catchFrom f t k ≡ n) × (catchException f t k ≡ e)
-  of-catches = stretches.of-catches f t (rises f t j Catches) seven n e (omega arith)
+  pub of-catches : (k : ℕ) → In (catchesOf f t n e) k → (k < t .catches) × (catchFrom f t k ≡ n) × Applies f t n e (catchException f t k)
+  of-catches = families.of-catches f t (rises f t j Catches) seven n e (omega arith)
 
   -- the stretch is empty exactly where the graph has no such row
   pub uncaught-true : uncaughtOf f t n e ≡ true → Uncaught (graphIn f t) n e
@@ -34,7 +35,7 @@ module _ (f : List ℕ) (t : Tables) (j : Judged f t) (n e : ℕ) (small : e < 8
       let l : catchesOf f t n e .to ≤ catchesOf f t n e .from = leb-true _ _ h in
       omega (arith, i .0, i .1)
 
-  pub uncaught-false : uncaughtOf f t n e ≡ false → (b : ℕ) × CatchRow f t n e b
+  pub uncaught-false : uncaughtOf f t n e ≡ false → (b : ℕ) × FamilyRow f t n e b
   uncaught-false h =
       let k = catchesOf f t n e .from in
       let r = of-catches k (omega arith, leb-false _ _ h) in

@@ -4,4 +4,5 @@ pub mod Whole
 pub mod Sorts
 pub mod Rises
 pub mod Caught
+pub mod Families
 pub mod Stages

@@ -12,12 +12,12 @@ use borrow.Author.Tests.{ltb-true, ltb-false, lt-ltb}
 use Rattle.words.specs.Lowest.{lowest}
 use Rattle.words.proofs.Lowest.{is-lowest, none-found}
 use Rattle.answer.specs.declared.Answer.{Answer}
-use Rattle.answer.specs.declared.Answer.the-variants.{Pass, TooShort, BadCount, BadLength, BadEntry, BadNode, BadFlow, BadCall, BadCatch, BadOpening, BadSheet, BadBlock, Broken, Overdrawn, Unfit, NoCallRow, OutputShort}
+use Rattle.answer.specs.declared.Answer.the-variants.{Pass, TooShort, BadCount, BadLength, BadEntry, BadNode, BadFlow, BadCall, BadCatch, BadOpening, BadSheet, BadBlock, Broken, Overdrawn, Unfit, BadParent, NoCallRow, OutputShort}
 use Rattle.answer.specs.Number.{placeOf}
 use Rattle.answer.proofs.Settled.{says-only, says}
 use Rattle.tables.specs.declared.Tables.{Tables}
 use Rattle.tables.specs.Trailer.{tablesOf}
-use Rattle.refuse.specs.Bad.{countBad, lengthBad, entryBad, nodeBad, flowBad, callBad, catchBad, uncalled, openingBad}
+use Rattle.refuse.specs.Bad.{countBad, lengthBad, entryBad, nodeBad, flowBad, callBad, parentBad, catchBad, uncalled, openingBad}
 use Rattle.graph.specs.Places.{badNodeAt, noCallRowAt}
 use Rattle.graph.specs.Judge.{refused, judgeRows, judgeIn, judgeOf}
 use Rattle.graph.specs.Meaning.{Given, turnOf, Before, Judges, refuses, passes}
@@ -32,16 +32,17 @@ inTurn c p =
     (cond (eqb c 5) (BadNode p)
     (cond (eqb c 6) (BadFlow p)
     (cond (eqb c 7) (BadCall p)
-    (cond (eqb c 8) (BadCatch p)
-    (cond (eqb c 9) (NoCallRow p)
-    (BadOpening p)))))))))
+    (cond (eqb c 8) (BadParent p)
+    (cond (eqb c 9) (BadCatch p)
+    (cond (eqb c 10) (NoCallRow p)
+    (BadOpening p))))))))))
 
 module _ (f : List ℕ) where
   abbrev t : Tables
   t = tablesOf f
 
-  -- what is refused about the file has its turn among ten
-  about-file : (b : Answer) → Given f t b → (0 < turnOf b) × (turnOf b < 11)
+  -- what is refused about the file has its turn among eleven
+  about-file : (b : Answer) → Given f t b → (0 < turnOf b) × (turnOf b < 12)
   about-file Pass g = absurd g
   about-file TooShort g = (omega arith, omega arith)
   about-file (BadCount i) g = (omega arith, omega arith)
@@ -50,6 +51,7 @@ module _ (f : List ℕ) where
   about-file (BadNode k) g = (omega arith, omega arith)
   about-file (BadFlow k) g = (omega arith, omega arith)
   about-file (BadCall k) g = (omega arith, omega arith)
+  about-file (BadParent e) g = (omega arith, omega arith)
   about-file (BadCatch k) g = (omega arith, omega arith)
   about-file (BadOpening k) g = (omega arith, omega arith)
   about-file (NoCallRow n) g = (omega arith, omega arith)
@@ -70,6 +72,7 @@ module _ (f : List ℕ) where
   found (BadNode k) g = refl
   found (BadFlow k) g = refl
   found (BadCall k) g = refl
+  found (BadParent e) g = refl
   found (BadCatch k) g = refl
   found (BadOpening k) g = refl
   found (NoCallRow n) g = refl
@@ -142,10 +145,11 @@ module _ (f : List ℕ) where
       (λ n4. rows-judge 5 (badNodeAt f t) (λ k. refl) n4 _ _ _ (λ k. (refl, refl)) (λ k l h. (l, h)) (λ k g. g)
       (λ n5. rows-judge 6 BadFlow (λ k. refl) n5 _ _ _ (λ k. (refl, refl)) (λ k l h. (l, h)) (λ k g. g)
       (λ n6. rows-judge 7 BadCall (λ k. refl) n6 _ _ _ (λ k. (refl, refl)) (λ k l h. (l, h)) (λ k g. g)
-      (λ n7. rows-judge 8 BadCatch (λ k. refl) n7 _ _ _ (λ k. (refl, refl)) (λ k l h. (l, h)) (λ k g. g)
-      (λ n8. rows-judge 9 (noCallRowAt f t) (λ k. refl) n8 _ _ _ (λ k. (refl, refl)) (λ k l h. (l, h)) (λ k g. g)
-      (λ n9. rows-judge 10 BadOpening (λ k. refl) n9 _ _ _ (λ k. (refl, refl)) (λ k l h. (l, h)) (λ k g. g)
-      (λ n10. passes (λ b g. n10 b (about-file b g .1) g) (says Pass)))))))))))
+      (λ n7. rows-judge 8 BadParent (λ k. refl) n7 _ _ _ (λ k. (refl, refl)) (λ k l h. (l, h)) (λ k g. g)
+      (λ n8. rows-judge 9 BadCatch (λ k. refl) n8 _ _ _ (λ k. (refl, refl)) (λ k l h. (l, h)) (λ k g. g)
+      (λ n9. rows-judge 10 (noCallRowAt f t) (λ k. refl) n9 _ _ _ (λ k. (refl, refl)) (λ k l h. (l, h)) (λ k g. g)
+      (λ n10. rows-judge 11 BadOpening (λ k. refl) n10 _ _ _ (λ k. (refl, refl)) (λ k l h. (l, h)) (λ k g. g)
+      (λ n11. passes (λ b g. n11 b (about-file b g .1) g) (says Pass))))))))))))
 
   -- Two answers of which that can be said are one.
   same : {a b : Answer} → Judges f a → Judges f b → a ≡ b

@@ -8,7 +8,7 @@ use native.Mathlib.Omega.{arith}
 use lib.Dec.{leb}
 use borrow.Author.Tests.{leb-true, leb-false}
 use Rattle.tables.specs.declared.Tables.{Tables}
-use Rattle.tables.specs.declared.Table.the-variants.{Trailer, Methods, Nodes, Flow, Calls, Catches, Opening}
+use Rattle.tables.specs.declared.Table.the-variants.{Trailer, Methods, Nodes, Flow, Calls, Parents, Catches, Opening}
 use Rattle.tables.specs.Fields.{flowFrom, callNode}
 use Rattle.rows.specs.Rows.{keyOf, Sorted}
 use Rattle.refuse.proofs.Fit.{flow-rises, call-rises, catch-fit, catch-rises}
@@ -46,6 +46,7 @@ module _ (f : List ℕ) (t : Tables) (flows : NoneBelow (flowBad f t) (t .flows)
   sorted Nodes = λ i k l u. l
   sorted Flow = steps-rise (flowFrom f t) (t .flows) (λ k l. flow-rises f t k (flows k l))
   sorted Calls = steps-rise (callNode f t) (t .calls) (λ k l. call-rises f t k (calls k l))
+  sorted Parents = λ i k l u. l
   sorted Catches = steps-rise (keyOf f t Catches) (t .catches) catch-step
   sorted Opening = λ i k l u. l
 

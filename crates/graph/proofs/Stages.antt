@@ -10,13 +10,13 @@ use borrow.Author.Tests.{leb-true, leb-false, ltb-true, eqb-true, eq-eqb}
 use Rattle.words.specs.Lowest.{lowest}
 use Rattle.words.proofs.Lowest.{is-lowest, none-found}
 use Rattle.answer.specs.declared.Answer.{Answer}
-use Rattle.answer.specs.declared.Answer.the-variants.{Pass, BadEntry, BadFlow, BadCall, BadCatch, BadOpening}
+use Rattle.answer.specs.declared.Answer.the-variants.{Pass, BadEntry, BadFlow, BadCall, BadParent, BadCatch, BadOpening}
 use Rattle.answer.specs.Number.{numberOf}
 use Rattle.answer.proofs.Unpack.{zero-pass}
 use Rattle.tables.specs.declared.Tables.{Tables}
 use Rattle.tables.specs.declared.Table.the-variants.{Calls}
 use Rattle.tables.specs.Fields.{callNode}
-use Rattle.refuse.specs.Bad.{named, uncalled, entryBad, nodeBad, flowBad, callBad, catchBad, openingBad}
+use Rattle.refuse.specs.Bad.{named, uncalled, entryBad, nodeBad, flowBad, callBad, parentBad, catchBad, openingBad}
 use Rattle.rows.specs.Rows.{Rises, Sorted, callsOf, noRows}
 use Rattle.rows.proofs.Stretches.{in-stretch, of-stretch}
 use Rattle.graph.specs.Places.{badNodeAt, noCallRowAt}
@@ -65,8 +65,9 @@ module _ (f : List ℕ) (t : Tables) where
       (table-stage (nodeBad f t) (t .nodes) (badNodeAt f t) _ (λ k. lit< tt)
       (table-stage (flowBad f t) (t .flows) BadFlow _ (λ k. lit< tt)
       (table-stage (callBad f t) (t .calls) BadCall _ (λ k. lit< tt)
+      (table-stage (parentBad f t) 8 BadParent _ (λ k. lit< tt)
       (table-stage (catchBad f t) (t .catches) BadCatch (λ next. next) (λ k. lit< tt)
-      (inr (λ next. refl))))))
+      (inr (λ next. refl)))))))
 
   -- what comes after the first stage
   abbrev later : Answer
@@ -98,5 +99,6 @@ module _ (f : List ℕ) (t : Tables) where
       let w5 = rows-pass _ _ (badNodeAt f t) _ (w4 .1) (λ k. lit< tt) in
       let w6 = rows-pass _ _ BadFlow _ (w5 .1) (λ k. lit< tt) in
       let w7 = rows-pass _ _ BadCall _ (w6 .1) (λ k. lit< tt) in
-      let w8 = rows-pass _ _ BadCatch _ (w7 .1) (λ k. lit< tt) in
+      let w15 = rows-pass _ _ BadParent _ (w7 .1) (λ k. lit< tt) in
+      let w8 = rows-pass _ _ BadCatch _ (w15 .1) (λ k. lit< tt) in
       sorted f t (w6 .0) (w7 .0) (w8 .0)

@@ -7,6 +7,7 @@ use Rattle.tables.specs.declared.Tables.{Tables}
 use Rattle.tables.specs.Trailer.{tablesOf}
 use Rattle.tables.specs.Kinds.{drawKind, callKind, returnKind, throwKind}
 use Rattle.tables.specs.Fields.{entryOf, nodeMethod, nodeKind, nodeNumber, nodeCount, flowFrom, flowTo, callNode, callMethod, catchFrom, catchException, catchTo}
+use Rattle.rows.specs.Family.{Applies}
 
 -- some row of the flow, of the calls, of the catches says so
 abbrev pub FlowRow : List ℕ → Tables → ℕ → ℕ → Type 0
@@ -17,6 +18,10 @@ CallRow f t c m = (k : ℕ) × (k < t .calls) × (callNode f t k ≡ c) × (call
 
 abbrev pub CatchRow : List ℕ → Tables → ℕ → ℕ → ℕ → Type 0
 CatchRow f t a e b = (k : ℕ) × (k < t .catches) × (catchFrom f t k ≡ a) × (catchException f t k ≡ e) × (catchTo f t k ≡ b)
+
+-- some row of the catches applies to the exception e at the node a, and leads to b
+abbrev pub FamilyRow : List ℕ → Tables → ℕ → ℕ → ℕ → Type 0
+FamilyRow f t a e b = (k : ℕ) × (k < t .catches) × (catchFrom f t k ≡ a) × Applies f t a e (catchException f t k) × (catchTo f t k ≡ b)
 
 -- node n stands in the table and has the kind
 abbrev pub OfKind : List ℕ → Tables → ℕ → ℕ → Type 0
@@ -36,7 +41,7 @@ graphIn f t =
       Throw = λ n e. OfKind f t throwKind n × (nodeNumber f t n ≡ e);
       Flow = FlowRow f t;
       Calls = CallRow f t;
-      Catch = CatchRow f t;
+      Catch = FamilyRow f t;
     }
 
 abbrev pub graphOf : List ℕ → Graph

@@ -1,4 +1,4 @@
--- What comes back of a graph file: numbers 1 to 9 and 17, and 0.
+-- What comes back of a graph file: numbers 1 to 9, 15 and 17, and 0.
 use Prim.Native.Nat.{ℕ}
 use mathlib.Core.Bool.{Bool, cond}
 use mathlib.Core.List.{List}
@@ -6,27 +6,28 @@ use lib.ListN.{length}
 use lib.Dec.{ltb}
 use Rattle.words.specs.Lowest.{lowest}
 use Rattle.answer.specs.declared.Answer.{Answer}
-use Rattle.answer.specs.declared.Answer.the-variants.{Pass, TooShort, BadCount, BadLength, BadEntry, BadFlow, BadCall, BadCatch, BadOpening}
+use Rattle.answer.specs.declared.Answer.the-variants.{Pass, TooShort, BadCount, BadLength, BadEntry, BadFlow, BadCall, BadParent, BadCatch, BadOpening}
 use Rattle.tables.specs.declared.Tables.{Tables}
 use Rattle.tables.specs.Trailer.{tablesOf}
 use Rattle.graph.specs.Places.{badNodeAt, noCallRowAt}
-use Rattle.refuse.specs.Bad.{countBad, lengthBad, entryBad, nodeBad, flowBad, callBad, catchBad, uncalled, openingBad}
+use Rattle.refuse.specs.Bad.{countBad, lengthBad, entryBad, nodeBad, flowBad, callBad, parentBad, catchBad, uncalled, openingBad}
 
 -- within a table the lowest row; where no row is refused, what comes next
 abbrev pub refused : (ℕ → Bool) → ℕ → (ℕ → Answer) → Answer → Answer
 refused bad rows answer next = cond (ltb (lowest bad rows) rows) (answer (lowest bad rows)) next
 
--- The first that applies, in this order, for a file whose trailer says t: 4 to 8, 17, 9,
+-- The first that applies, in this order, for a file whose trailer says t: 4 to 7, 15, 8, 17, 9,
 unfoldable pub judgeRows : List ℕ → Tables → Answer
 judgeRows f t =
     refused (entryBad f t) (t .methods) BadEntry
     (refused (nodeBad f t) (t .nodes) (badNodeAt f t)
     (refused (flowBad f t) (t .flows) BadFlow
     (refused (callBad f t) (t .calls) BadCall
+    (refused (parentBad f t) 8 BadParent
     (refused (catchBad f t) (t .catches) BadCatch
     (refused (uncalled f t) (t .nodes) (noCallRowAt f t)
     (refused (openingBad f t) (t .types) BadOpening
-    Pass))))))
+    Pass)))))))
 
 -- and before them 1 to 3.
 unfoldable pub judgeIn : List ℕ → Tables → Answer

@@ -1,4 +1,4 @@
--- What the judge's answer means: the table "What comes back", numbers 1 to 9 and 17, and 0.
+-- What the judge's answer means: the table "What comes back", numbers 1 to 9, 15 and 17, and 0.
 use Prim.Native.Nat.{ℕ, _<_}
 use mathlib.Core.Path.{_≡_}
 use mathlib.Core.Bool.{true}
@@ -6,11 +6,11 @@ use mathlib.Core.Logic.{_⊎_}
 use mathlib.Core.List.{List}
 use lib.ListN.{length}
 use Rattle.answer.specs.declared.Answer.{Answer}
-use Rattle.answer.specs.declared.Answer.the-variants.{Pass, TooShort, BadCount, BadLength, BadEntry, BadNode, BadFlow, BadCall, BadCatch, BadOpening, BadSheet, BadBlock, Broken, Overdrawn, Unfit, NoCallRow, OutputShort}
+use Rattle.answer.specs.declared.Answer.the-variants.{Pass, TooShort, BadCount, BadLength, BadEntry, BadNode, BadFlow, BadCall, BadCatch, BadOpening, BadSheet, BadBlock, Broken, Overdrawn, Unfit, BadParent, NoCallRow, OutputShort}
 use Rattle.answer.specs.Number.{placeOf, Says}
 use Rattle.tables.specs.declared.Tables.{Tables}
 use Rattle.tables.specs.Trailer.{tablesOf}
-use Rattle.refuse.specs.Bad.{countBad, lengthBad, entryBad, nodeBad, flowBad, callBad, catchBad, uncalled, openingBad}
+use Rattle.refuse.specs.Bad.{countBad, lengthBad, entryBad, nodeBad, flowBad, callBad, parentBad, catchBad, uncalled, openingBad}
 
 -- "Given when": the refusal applies to a file whose trailer says t
 abbrev pub Given : List ℕ → Tables → Answer → Type 0
@@ -21,6 +21,7 @@ Given f t (BadEntry k) = (k < t .methods) × (entryBad f t k ≡ true)
 Given f t (BadNode k) = (k < t .nodes) × (nodeBad f t k ≡ true)
 Given f t (BadFlow k) = (k < t .flows) × (flowBad f t k ≡ true)
 Given f t (BadCall k) = (k < t .calls) × (callBad f t k ≡ true)
+Given f t (BadParent e) = (e < 8) × (parentBad f t e ≡ true)
 Given f t (BadCatch k) = (k < t .catches) × (catchBad f t k ≡ true)
 Given f t (NoCallRow n) = (n < t .nodes) × (uncalled f t n ≡ true)
 Given f t (BadOpening k) = (k < t .types) × (openingBad f t k ≡ true)
@@ -33,7 +34,7 @@ Given f t (Unfit n) = ⊥
 Given f t OutputShort = ⊥
 Given f t Pass = ⊥
 
--- the order of the refusals: 1 to 8, 17, 9
+-- the order of the refusals: 1 to 7, 15, 8, 17, 9
 abbrev pub turnOf : Answer → ℕ
 turnOf TooShort = 1
 turnOf (BadCount i) = 2
@@ -42,9 +43,10 @@ turnOf (BadEntry k) = 4
 turnOf (BadNode k) = 5
 turnOf (BadFlow k) = 6
 turnOf (BadCall k) = 7
-turnOf (BadCatch k) = 8
-turnOf (NoCallRow n) = 9
-turnOf (BadOpening k) = 10
+turnOf (BadParent e) = 8
+turnOf (BadCatch k) = 9
+turnOf (NoCallRow n) = 10
+turnOf (BadOpening k) = 11
 -- the others have no turn here
 turnOf BadSheet = 0
 turnOf (BadBlock w) = 0

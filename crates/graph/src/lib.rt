@@ -1,4 +1,4 @@
-// The judgement of a graph file: answers 1 to 9 and 17.
+// The judgement of a graph file: answers 1 to 9, 15 and 17.
 use answer::Answer;
 use layout::Shape;
 use tables::Table;
@@ -16,7 +16,7 @@ ghost use Rattle.graph.specs.Scan.{rowBad, badRow, judgeTables};
 ghost use Rattle.graph.specs.Judgement.{shapeFor, judgedOf};
 ghost use Rattle.graph.specs.Meaning.{Judges};
 
-// What is found of a file by looking at it once: the answer 1 to 9, 17 or 0, its tables, and the shape of its sheet.
+// What is found of a file by looking at it once: the answer 1 to 9, 15, 17 or 0, its tables, and the shape of its sheet.
 pub struct Judgement {
     pub answer: Answer,
     pub tables: Tables,
@@ -57,6 +57,7 @@ fn row_bad(f: &[u8], t: Tables, table: Table, k: u16) -> bool
         Table::Nodes => refuse::node_bad(f, t, k),
         Table::Flow => refuse::flow_bad(f, t, k),
         Table::Calls => refuse::call_bad(f, t, k),
+        Table::Parents => refuse::parent_bad(f, t, k),
         Table::Catches => refuse::catch_bad(f, t, k),
         Table::Opening => refuse::opening_bad(f, t, k),
     }
@@ -87,6 +88,7 @@ fn bad_row(f: &[u8], t: Tables, table: Table, k: u16) -> Answer
         Table::Nodes => bad_node_at(f, t, k),
         Table::Flow => Answer::BadFlow(k),
         Table::Calls => Answer::BadCall(k),
+        Table::Parents => Answer::BadParent(k),
         Table::Catches => Answer::BadCatch(k),
         Table::Opening => Answer::BadOpening(k),
     }
@@ -134,7 +136,8 @@ fn judge_tables(f: &[u8], t: Tables) -> Answer
     ensures { λ r. ⌜ r ≡ judgeTables (now (f .entry)) t Pass ⌝ }
 {
     let catches = refused(f, t, Table::Catches, Answer::Pass);
-    let calls = refused(f, t, Table::Calls, catches);
+    let parents = refused(f, t, Table::Parents, catches);
+    let calls = refused(f, t, Table::Calls, parents);
     let flow = refused(f, t, Table::Flow, calls);
     let nodes = refused(f, t, Table::Nodes, flow);
     refused(f, t, Table::Methods, nodes)

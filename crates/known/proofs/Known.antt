@@ -1,7 +1,7 @@
--- Every row of the table is true. The proof is one computation, so it opens all that check and the runs are defined by.
+-- Every row of the table, and beside it, is true. The proof is one computation, so it opens all that check and the runs are defined by.
 use Prim.Native.Nat.{ℕ}
 use mathlib.Core.Path.{_≡_, refl}
-use mathlib.Core.Bool.{true, cond}
+use mathlib.Core.Bool.{true, cond, _&&_}
 use mathlib.Core.List.{List, [], _∷_, _++_}
 use lib.ListN.{replicate}
 use lib.Dec.{eqb}
@@ -9,15 +9,17 @@ use Rattle.words.specs.Bytes.{byteAt, wordAt}
 use Rattle.words.specs.Lowest.{lowest}
 use Rattle.words.specs.Turn.{inTurn}
 use Rattle.effect.specs.Whole.{normalOf, nothingDone, drawOf, grantOf, applyOf, thenOf, bothOf, atMostOf, stockAtMostOf, failsOf, stockFailsOf, coversOf}
+use Rattle.effect.proofs.Bools.{and-l, and-r}
 use Rattle.effect.specs.Meaning.{with-at, replaced, oneTaken}
 use Rattle.effect.proofs.Compute.{less, left, countAfter, rightsAfter, normDrop, thenCap, sumDrop, rank, largerDrop, countAtMost, within, normalForm, normalOne, idle, drawn, granted, applyOne, thenOne, bothOne, atMostOne, heldAtMost, coversHeld}
 use Rattle.model.specs.Stocks.{done, stepOf}
 use Rattle.model.specs.Rounds.{lowest-rounds, whole-rounds, earlier-rounds}
 use Rattle.tables.specs.Trailer.{trailerAt, trailer, tablesOf}
-use Rattle.tables.specs.Fields.{entryOf, nodeMethod, nodeKind, nodeNumber, nodeCount, nodeRights, flowFrom, flowTo, callNode, callMethod, openingRights, openingCount}
-use Rattle.refuse.specs.Bad.{above, notAbove, flowRow, countBad, lengthBad, entryBad, outOfRange, unusedSet, nodeBad, flowBad, callBad, uncalled, openingBad}
+use Rattle.tables.specs.Fields.{entryOf, nodeMethod, nodeKind, nodeNumber, nodeCount, nodeRights, flowFrom, flowTo, callNode, callMethod, parentOf, catchFrom, catchException, catchTo, openingRights, openingCount}
+use Rattle.tables.specs.Family.{climb, nearest}
+use Rattle.refuse.specs.Bad.{above, notAbove, flowRow, catchRow, countBad, lengthBad, entryBad, outOfRange, unusedSet, nodeBad, flowBad, callBad, parentBad, kin, throwsOther, catchBad, uncalled, openingBad}
 use Rattle.graph.specs.Judge.{judgeRows, judgeIn}
-use Rattle.rows.specs.Rows.{firstRow, stretchOf}
+use Rattle.rows.specs.Rows.{firstRow, stretchOf, hasOwn}
 use Rattle.nodes.specs.Nodes.{doesIn, openingIn}
 use Rattle.layout.specs.Layout.{methodAt, exitAt, nodeAt, sheetWords, sheetBytes, blockSize, blockAt}
 use Rattle.sheet.specs.Read.{stockAt, effectAt, marked}
@@ -28,12 +30,12 @@ use Rattle.demand.specs.Walk.{rowsWalk, leavingWalk, startWalk, entryWalk, flow
 use Rattle.rules.specs.Keys.{lessened, leastKey}
 use Rattle.permit.specs.Check.{uncoveredAt, wholeSheet, judgedSheet, checkOf}
 use Rattle.known.specs.File.{words, nodeRows, pairs, triples, distance, fileBytes}
-use Rattle.known.specs.Table.{aWith, revoked, withoutRight, neverReturns, table}
+use Rattle.known.specs.Table.{aWith, revoked, withoutRight, neverReturns, table, ownRowFirst, beside}
 use Rattle.known.specs.Known.{AllKnown}
 use Rattle.known.proofs.Follows.{flow, call, repeat, overdraws, follows}
 use Rattle.known.proofs.Truth.{Certificate, hasThese, wordsOf, test, tests, all-true}
 
--- File A is the 68 bytes that the document gives.
+-- File A is the 68 bytes that the document gives, with eight kinds that have no parent, and so a longer distance.
 pub a-bytes : fileBytes (aWith 2 2)
     ≡ 0x00 ∷ 0x00 ∷ 0x03 ∷ 0x00
     ∷ 0x00 ∷ 0x01 ∷ 0x00 ∷ 0x02 ∷ 0x01 ∷ 0x01
@@ -43,8 +45,9 @@ pub a-bytes : fileBytes (aWith 2 2)
     ∷ 0x01 ∷ 0x04 ∷ 0x00 ∷ 0x00 ∷ 0x00 ∷ 0x00
     ∷ 0x00 ∷ 0x00 ∷ 0x01 ∷ 0x00 ∷ 0x01 ∷ 0x00 ∷ 0x02 ∷ 0x00 ∷ 0x03 ∷ 0x00 ∷ 0x04 ∷ 0x00
     ∷ 0x01 ∷ 0x00 ∷ 0x01 ∷ 0x00
+    ∷ 0xff ∷ 0xff ∷ 0xff ∷ 0xff ∷ 0xff ∷ 0xff ∷ 0xff ∷ 0xff
     ∷ 0x00 ∷ 0x00 ∷ 0x00 ∷ 0x00
-    ∷ 0x02 ∷ 0x00 ∷ 0x05 ∷ 0x00 ∷ 0x03 ∷ 0x00 ∷ 0x01 ∷ 0x00 ∷ 0x00 ∷ 0x00 ∷ 0x01 ∷ 0x00 ∷ 0x36 ∷ 0x00
+    ∷ 0x02 ∷ 0x00 ∷ 0x05 ∷ 0x00 ∷ 0x03 ∷ 0x00 ∷ 0x01 ∷ 0x00 ∷ 0x00 ∷ 0x00 ∷ 0x01 ∷ 0x00 ∷ 0x3e ∷ 0x00
     ∷ []
 unfolding words nodeRows pairs triples distance fileBytes aWith
 a-bytes = refl
@@ -89,25 +92,30 @@ certificates =
     ∷ (9, (words (method (held 0x0101 255) unmarked ++ idle-node ++ effect 0x0101 0x0101 0 256), flow 0 ∷ []))
     ∷ (10, (words (method (held 0x0101 255) unmarked ++ idle-node), []))
     ∷ (11, (words (method (held 0 0) unmarked ++ method (held 0 0) unmarked ++ idle-node ++ unmarked ++ idle-node), []))
+    ∷ (12, (words (method (held 0 0) idle-node ++ idle-node ++ idle-node ++ unmarked), []))
     ∷ []
 
 find : List (ℕ × Certificate) → ℕ → Certificate
 find [] n = ([], [])
 find (c ∷ d) n = cond (eqb (c .0) n) (c .1) (find d n)
 
-tested : tests (find certificates) table ≡ true
+tested : tests (find certificates) table && tests (find certificates) beside ≡ true
 unfolding byteAt wordAt lowest inTurn
     less left countAfter rightsAfter normDrop thenCap sumDrop rank largerDrop countAtMost within normalForm normalOne idle drawn granted applyOne thenOne bothOne atMostOne heldAtMost coversHeld
     normalOf nothingDone drawOf grantOf applyOf thenOf bothOf atMostOf stockAtMostOf failsOf stockFailsOf coversOf with-at replaced oneTaken done stepOf lowest-rounds whole-rounds earlier-rounds
-    trailerAt trailer tablesOf entryOf nodeMethod nodeKind nodeNumber nodeCount nodeRights flowFrom flowTo callNode callMethod openingRights openingCount
-    above notAbove flowRow countBad lengthBad entryBad outOfRange unusedSet nodeBad flowBad callBad uncalled openingBad judgeRows judgeIn
-    firstRow stretchOf doesIn openingIn methodAt exitAt nodeAt sheetWords sheetBytes blockSize blockAt
+    trailerAt trailer tablesOf entryOf nodeMethod nodeKind nodeNumber nodeCount nodeRights flowFrom flowTo callNode callMethod parentOf catchFrom catchException catchTo openingRights openingCount
+    climb nearest above notAbove flowRow catchRow countBad lengthBad entryBad outOfRange unusedSet nodeBad flowBad callBad parentBad kin throwsOther catchBad uncalled openingBad judgeRows judgeIn
+    firstRow stretchOf hasOwn doesIn openingIn methodAt exitAt nodeAt sheetWords sheetBytes blockSize blockAt
     stockAt effectAt someWord countsFit illBlock wholeOf roundsOf
     marked goesIn steppedIn calledIn rowsWalk leavingWalk startWalk entryWalk flowWalk endWalk nodeWalk afterWalk intoWalk thrownWalk calledWalk tableWalk tablesWalk sheetWalk lessened leastKey
     uncoveredAt wholeSheet judgedSheet checkOf
-    words nodeRows pairs triples distance fileBytes aWith revoked withoutRight neverReturns table overdraws follows hasThese wordsOf test tests certificates find
+    words nodeRows pairs triples distance fileBytes aWith revoked withoutRight neverReturns table ownRowFirst beside overdraws follows hasThese wordsOf test tests certificates find
 tested = refl
 
 -- K1 to K11 hold.
 pub all-known : AllKnown table
-all-known = all-true (find certificates) table tested
+all-known = all-true (find certificates) table (and-l (tests (find certificates) table) _ tested)
+
+-- And of a throw with a row for its kind and for its parent, the parent's handler is not reached.
+pub beside-known : AllKnown beside
+beside-known = all-true (find certificates) beside (and-r (tests (find certificates) table) _ tested)

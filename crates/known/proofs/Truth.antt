@@ -79,7 +79,7 @@ module _ (f u : List ℕ) where
   CoversBelow n = WellFormed f u × ((r : ℕ) → Holds f u r) × ((m : ℕ) → m < n → IsReached f u m → IsCovered f u m)
 
   was-overdrawn : {a : Answer} → Checks f u a → numberOf a ≡ 13 → CoversBelow (placeOf a)
-  was-overdrawn (refused n v) e = absurd (⊎-elim (λ w. omega (arith, v .number-is)) (λ w. omega (arith, v .number-is)) (judge-few f (tablesOf f)))
+  was-overdrawn (refused n v) e = absurd (⊎-elim (λ w. omega (arith, v .number-is)) (⊎-elim (λ w. omega (arith, v .number-is)) (λ w. omega (arith, v .number-is))) (judge-few f (tablesOf f)))
   was-overdrawn (wrong-length p n v) e = absurd (omega (arith, v .number-is))
   was-overdrawn (ill-formed p q b l h k v) e = absurd (omega (arith, v .number-is))
   was-overdrawn (broken w r k h n low v) e = absurd (omega (arith, v .number-is))

@@ -1,11 +1,11 @@
--- Document 01's known answers, K1 to K11, as one table.
+-- Document 01's known answers, K1 to K11, as one table, and an example of the change requests beside it.
 use Prim.Native.Nat.{ℕ}
 use mathlib.Core.List.{List, [], _∷_}
 use lib.ListN.{replicate}
 use Rattle.effect.specs.declared.Effect.{Effect}
 use Rattle.effect.specs.Whole.{nothingDone, grantOf, thenOf, bothOf}
-use Rattle.tables.specs.Kinds.{plainKind, grantKind, drawKind, callKind, returnKind}
-use Rattle.known.specs.File.{node, File}
+use Rattle.tables.specs.Kinds.{plainKind, grantKind, drawKind, callKind, returnKind, throwKind}
+use Rattle.known.specs.File.{node, File, noParents}
 
 -- What a row says.
 pub data Claim : Type 0 where
@@ -34,6 +34,7 @@ aWith granted repeats =
           ∷ [];
       flow = (0, 1) ∷ (1, 2) ∷ (3, 4) ∷ [];
       calls = (1, 1) ∷ [];
+      parents = noParents;
       catches = [];
       opening = (0, 0) ∷ [];
     }
@@ -46,6 +47,7 @@ revoked =
       nodes = node 0 grantKind 0 0 0x0101 ∷ node 0 drawKind 0 0 0x0101 ∷ [];
       flow = (0, 1) ∷ [];
       calls = [];
+      parents = noParents;
       catches = [];
       opening = (0x0101, 255) ∷ [];
     }
@@ -58,6 +60,7 @@ withoutRight =
       nodes = node 0 drawKind 0 0 0x0301 ∷ [];
       flow = [];
       calls = [];
+      parents = noParents;
       catches = [];
       opening = (0x0101, 255) ∷ [];
     }
@@ -70,6 +73,7 @@ neverReturns =
       nodes = node 0 callKind 0 1 0 ∷ node 0 drawKind 0 0 0x0101 ∷ node 1 plainKind 0 0 0 ∷ [];
       flow = (0, 1) ∷ (2, 2) ∷ [];
       calls = (0, 1) ∷ [];
+      parents = noParents;
       catches = [];
       opening = (0, 0) ∷ [];
     }
@@ -99,3 +103,20 @@ table =
     ∷ (11, unreached neverReturns 1)
     ∷ (11, passes neverReturns)
     ∷ []
+
+-- P4: a throw of kind 1, whose parent is 0, with a catch row for each. The handler of 0, node 2, is a draw that nothing covers.
+unfoldable pub ownRowFirst : File
+ownRowFirst =
+    record {
+      methods = 0 ∷ [];
+      nodes = node 0 throwKind 1 0 0 ∷ node 0 returnKind 0 0 0 ∷ node 0 drawKind 0 0 0x0101 ∷ [];
+      flow = [];
+      calls = [];
+      parents = 255 ∷ 0 ∷ replicate 6 255;
+      catches = (0, 0, 2) ∷ (0, 1, 1) ∷ [];
+      opening = (0, 0) ∷ [];
+    }
+
+-- "Rows of a farther ancestor are dead": no run arrives at the parent's handler, and the file passes.
+unfoldable pub beside : List (ℕ × Claim)
+beside = (12, unreached ownRowFirst 2) ∷ (12, passes ownRowFirst) ∷ []

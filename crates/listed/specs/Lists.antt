@@ -29,7 +29,7 @@ pub data Lists (f s s′ o o′ : List ℕ) (a : Answer) (n : ℕ) : Type 0 wher
 
 -- What the program prints of its input.
 pub data Prints (input : List ℕ) : List ℕ → Type 0 where
-  -- "For input longer than 12,454 bytes the program prints `refused 3 0`"
-  too-long : 12454 < length input → Prints input (firstLine BadLength)
+  -- "For input longer than" the longest file, 12,462 bytes with the parents, "the program prints `refused 3 0`"
+  too-long : 12462 < length input → Prints input (firstLine BadLength)
   -- else the listing of what is worked out, in a sheet of the length that the file asks for
-  whole : length input ≤ 12454 → {s r : List ℕ} {a : Answer} → length s ≡ sheetBytes (judgedOf input .shape) → WorksOut input s r a → Prints input (textOf input a r)
+  whole : length input ≤ 12462 → {s r : List ℕ} {a : Answer} → length s ≡ sheetBytes (judgedOf input .shape) → WorksOut input s r a → Prints input (textOf input a r)

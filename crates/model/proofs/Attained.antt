@@ -172,11 +172,11 @@ module _ (S : Setting) where
         }
     node-asked (rule4 {n} {e} {h = d} t nn r) i σ s =
         let h = nodes-hit n nn i σ s in
-        record { brought = h .brought; how = rw (← catch-inside n e d r .3) (more (h .how) (caught t r)); low = h .low }
+        record { brought = h .brought; how = rw (← catch-inside n e d r .2) (more (h .how) (caught t r)); low = h .low }
     node-asked (rule7 ca nc l x f k k≥1 k≤) i σ s = all-rounds ca nc l x f k k≥1 k≤ i σ s
     node-asked (rule9 {c} {e = e} {h = d} ca nc l x r j y) i σ s =
         let h = thrown ca nc l x j y i σ s in
-        record { brought = h .brought; how = rw (← catch-inside c e d r .3) (more (h .how) (handled r)); low = h .low }
+        record { brought = h .brought; how = rw (← catch-inside c e d r .2) (more (h .how) (handled r)); low = h .low }
 
     pub exit-asked : {r m x : ℕ} {e : Effect} → AskExit W G step opening T r m x e → ExitHit m x e
     exit-asked (rule5 {n} r nn) i σ s =

@@ -9,7 +9,7 @@ pub record Formed (G : Graph) : Type 0 where
   pub entry-inside : (m : ℕ) → m < G .methods → (G .entry m < G .nodes) × (G .method (G .entry m) ≡ m)
   pub flow-inside : (a b : ℕ) → G .Flow a b → (a < G .nodes) × (b < G .nodes) × (G .method a ≡ G .method b)
   pub flow-leaves : (a b : ℕ) → G .Flow a b → ((G .Return a → ⊥) × ((e : ℕ) → G .Throw a e → ⊥))
-  pub catch-inside : (a e b : ℕ) → G .Catch a e b → (a < G .nodes) × (b < G .nodes) × (e < 8) × (G .method a ≡ G .method b)
+  pub catch-inside : (a e b : ℕ) → G .Catch a e b → (a < G .nodes) × (b < G .nodes) × (G .method a ≡ G .method b)
   pub calls-inside : (c m : ℕ) → G .Calls c m → G .Call c × (m < G .methods)
   pub call-has-row : (c : ℕ) → G .Call c → (m : ℕ) × G .Calls c m
   pub some-repeats : (c : ℕ) → G .Call c → 0 < G .repeats c

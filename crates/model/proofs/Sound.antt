@@ -184,7 +184,7 @@ module _ (S : Setting) (T : Sheet (S .W)) where
           record {
             marked = ask .0;
             base = h .base;
-            good = rw (← catch-inside n e d r′ .3) (h .good);
+            good = rw (← catch-inside n e d r′ .2) (h .good);
             holds = λ i. le-trans (ask .1 (h .base) i) (h .holds i);
           }
       keep (leaves {n} {e} t u) h =  -- rule 6
@@ -203,7 +203,7 @@ module _ (S : Setting) (T : Sheet (S .W)) where
           record {
             marked = ask .0;
             base = g .caller;
-            good = rw (← catch-inside c e d r′ .3) (g .caller-good);
+            good = rw (← catch-inside c e d r′ .2) (g .caller-good);
             holds = λ i. le-trans (ask .1 (g .caller) i) (o .holds i);
           }
       keep (passes {c = c} u) h =  -- rule 10

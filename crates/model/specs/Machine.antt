@@ -2,7 +2,7 @@
 use mathlib.Core.List.{List, [], _∷_}
 use Prim.Native.Nat.{ℕ, _-_, _<_}
 
--- What the first five tables say. A method has its entry node, a node its method and, where it is a call, its repeats.
+-- What the tables say, all but the opening stock. A method has its entry node, a node its method and, where it is a call, its repeats.
 pub record Graph : Type 1 where
   pub methods : ℕ
   pub nodes : ℕ
@@ -14,7 +14,8 @@ pub record Graph : Type 1 where
   pub Call : ℕ → Type 0
   pub Return : ℕ → Type 0
   pub Throw : ℕ → ℕ → Type 0
-  -- there is a flow row from, to; a call row node, method; a catch row from, exception, to
+  -- there is a flow row from, to; a call row node, method; a catch row from, exception, to that applies: one of the exception itself or,
+  -- if it has none at the node, of its nearest ancestor that has some
   pub Flow : ℕ → ℕ → Type 0
   pub Calls : ℕ → ℕ → Type 0
   pub Catch : ℕ → ℕ → ℕ → Type 0
@@ -33,7 +34,7 @@ pub data Config (Stock : Type 0) : Type 0 where
   At : ℕ → List Frame → Stock → Config Stock
   Out : ℕ → List Frame → Stock → Config Stock
 
--- there is no catch row for the exception e at the node n
+-- no catch row applies to the exception e at the node n
 abbrev pub Uncaught : Graph → ℕ → ℕ → Type 0
 Uncaught G n e = (h : ℕ) → G .Catch n e h → ⊥
 
@@ -41,8 +42,8 @@ module _ {Stock : Type 0} (G : Graph) (D : Doing Stock) where
   open Graph G using (entry, repeats, Goes, Call, Return, Throw, Flow, Calls, Catch)
   open Doing D using (act, Covers)
 
-  -- Where no step fits, with no caller or no row to follow, the run ends. Each exception kind stands alone. A caller that an exception or
-  -- a return passes is not arrived at again: no step leads to it.
+  -- Where no step fits, with no caller or no row to follow, the run ends. A caller that an exception or a return passes is not
+  -- arrived at again: no step leads to it.
   pub data Step : Config Stock → Config Stock → Type 0 where
     -- Plain, grant and draw go along any flow row.
     along : {n n′ : ℕ} {σ : List Frame} {s : Stock} → Goes n → Flow n n′ → Step (At n σ s) (At n′ σ (act n s))

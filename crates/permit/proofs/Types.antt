@@ -18,9 +18,9 @@ use Rattle.permit.specs.Meaning.{Checks, refused, wrong-length, ill-form
 use Rattle.permit.proofs.Draws.{drawn-type}
 
 module _ (f s : List ℕ) where
-  -- 10 to 16 are not the file's
-  not-file : {n : ℕ} → numberOf (judgeOf f) ≡ n → 9 < n → n < 17 → ⊥
-  not-file e l u = ⊎-elim (λ w. omega arith) (λ w. omega arith) (judge-few f (tablesOf f))
+  -- 10 to 14 are not the file's
+  not-file : {n : ℕ} → numberOf (judgeOf f) ≡ n → 9 < n → n < 15 → ⊥
+  not-file e l u = ⊎-elim (λ w. omega arith) (⊎-elim (λ w. omega arith) (λ w. omega arith)) (judge-few f (tablesOf f))
 
   pub named-type : {a : Answer} → Checks f s a → numberOf a ≡ 12
       → (typeOf a < tablesOf f .types) ⊎ ((typeOf a ≡ 6) × ((k : ℕ) → k < 6 → HoldsAt f s (placeOf a) k))

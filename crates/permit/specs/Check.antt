@@ -41,6 +41,6 @@ unfoldable pub judgedSheet : List ℕ → Tables → Shape → List ℕ → Answ
 judgedSheet f t x s =
     cond (eqb (length s) (sheetBytes x)) (cond (ltb (firstIll s x) (blockCount x)) (BadBlock (blockAt x (firstIll s x))) (wholeSheet f t x s)) BadSheet
 
--- 1 to 9 and 17 of the file, then 10 to 13 and 0
+-- 1 to 9, 15 and 17 of the file, then 10 to 13 and 0
 unfoldable pub checkOf : List ℕ → List ℕ → Answer
 checkOf f s = cond (eqb (numberOf (judgeOf f)) 0) (judgedSheet f (tablesOf f) (shapeOf (tablesOf f)) s) (judgeOf f)

@@ -24,7 +24,7 @@ IsCovered f s n = doings (programOf f) .Covers n (stockIn f s n)
 
 -- Of the file f and the sheet s, the answer a.
 pub data Checks (f s : List ℕ) (a : Answer) : Type 0 where
-  -- 1 to 9, 17: the file is refused
+  -- 1 to 9, 15, 17: the file is refused
   refused : (judgeOf f ≡ Pass → ⊥) → SaysAs a (judgeOf f) → Checks f s a
   -- 10: the sheet's length is wrong
   wrong-length : judgeOf f ≡ Pass → (length s ≡ sheetBytes (shape f) → ⊥) → Says a 10 0 0 → Checks f s a

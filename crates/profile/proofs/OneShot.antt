@@ -1,6 +1,6 @@
 -- A graph that fits one-shot has no run that overdraws.
 use Prim.Native.Nat.{ℕ, _<_}
-use mathlib.Core.Path.{_≡_, sym, subst, _∙_}
+use mathlib.Core.Path.{_≡_, refl, sym, subst, _∙_}
 use mathlib.Core.List.{List}
 use native.Mathlib.Decide.{ℕ-discrete, decLt}
 use native.Mathlib.Omega.{arith}
@@ -14,7 +14,7 @@ use Rattle.model.proofs.OneShot.{AskedBefore, not-overdrawn, grant-covers}
 use Rattle.tables.specs.declared.Tables.{Tables}
 use Rattle.tables.specs.Trailer.{tablesOf}
 use Rattle.tables.specs.Kinds.{grantKind, drawKind, callKind}
-use Rattle.tables.specs.Fields.{nodeKind, nodeNumber, nodeCount, nodeRights}
+use Rattle.tables.specs.Fields.{nodeKind, nodeNumber, nodeCount, nodeRights, catchException}
 use Rattle.refuse.proofs.Fit.{node-fit}
 use Rattle.graph.specs.Judge.{judgeOf}
 use Rattle.graph.specs.Graph.{FlowRow, OfKind}
@@ -40,7 +40,7 @@ module _ (f : List ℕ) where
 
     module _ (none : (n : ℕ) → BreaksOneShot f n → ⊥) where
       asked-before : (d : ℕ) → OfKind f t drawKind d → AskedBefore (programOf f .graph) (doings (programOf f)) d
-      asked-before d k = record { by-flow = λ g r. flow g r (asked f g d); no-entry = λ m l q. none d (by-entry k m l q); no-catch = λ n e r. none d (by-catch k n e r) }
+      asked-before d k = record { by-flow = λ g r. flow g r (asked f g d); no-entry = λ m l q. none d (by-entry k m l q); no-catch = λ n e r. none d (by-catch k n (catchException f t (r .0)) (r .0, r .1, r .2, refl, r .4)) }
         where
           flow : (g : ℕ) → FlowRow f t g d → Dec (Asks f g d) → (OfKind f t callKind g → ⊥) × ((s : Stock) → Covered (doesIn f t d) (done (doesIn f t g) s))
           flow g r (yes a) = (λ c. omega (arith, c .1, a .is-grant), asks-covers g d (formed f pass .flow-inside g d r .0) k a)

@@ -31,7 +31,7 @@ module _ (f : List ℕ) where
     by-flow : OfKind f t drawKind d → (g : ℕ) → FlowRow f t g d → (Asks g d → ⊥) → BreaksOneShot d
     -- by a method whose entry node it is,
     by-entry : OfKind f t drawKind d → (m : ℕ) → m < t .methods → entryOf f m ≡ d → BreaksOneShot d
-    -- or by a catch row whose target it is.
+    -- or by a catch row whose target it is, whether or not the row ever applies.
     by-catch : OfKind f t drawKind d → (n e : ℕ) → CatchRow f t n e d → BreaksOneShot d
 
   -- Session: "every grant stands in method 0 with count 255, and no call row names method 0". So a node breaks it
@@ -43,7 +43,7 @@ module _ (f : List ℕ) where
 
   -- For a profile, where `Breaks` says which nodes break it, the answer a.
   pub data Profiled (Breaks : ℕ → Type 0) (a : Answer) : Type 0 where
-    -- 1 to 9, 17: the file is refused
+    -- 1 to 9, 15, 17: the file is refused
     refused : (judgeOf f ≡ Pass → ⊥) → SaysAs a (judgeOf f) → Profiled Breaks a
     -- 14: the lowest node that breaks the profile
     unfit : judgeOf f ≡ Pass → (n : ℕ) → Breaks n → ((m : ℕ) → m < n → Breaks m → ⊥) → Says a 14 0 n → Profiled Breaks a

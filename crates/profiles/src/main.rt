@@ -38,9 +38,9 @@ fn print_profiles(one_shot: Answer, session: Answer) {
 
 // One byte more than the longest file is read, and refused without a look at the rest.
 fn main() {
-    let mut file = [0u8; 12455];
+    let mut file = [0u8; 12463];
     let n = io::read_full(STDIN_FILENO, &mut file);
-    if n > 12454 {
+    if n > 12462 {
         print_profiles(Answer::BadLength, Answer::BadLength);
         return;
     }

@@ -1,11 +1,12 @@
 -- What each row that is not refused ensures, table by table.
-use mathlib.Core.Path.{_≡_}
-use mathlib.Core.Bool.{Bool, false, not, _&&_}
-use mathlib.Core.Logic.{_⊎_}
+use mathlib.Core.Path.{_≡_, refl, subst}
+use mathlib.Core.Bool.{Bool, true, false, not, _&&_}
+use mathlib.Core.Logic.{_⊎_, inl, inr}
 use mathlib.Core.List.{List}
 use Prim.Native.Nat.{ℕ, _+_, _-_, _<_, _≤_}
 use lib.ListN.{length}
-use lib.Dec.{eqb}
+use native.Mathlib.Omega.{arith}
+use lib.Dec.{leb, eqb}
 use borrow.Author.Tests.{leb-false, ltb-true, ltb-false, eqb-false, eqb-true, not-false, eq-eqb, ne-eqb}
 use Rattle.words.specs.Lowest.{lowest}
 use Rattle.words.proofs.Lowest.{NoneBelow, is-lowest}
@@ -13,19 +14,36 @@ use Rattle.words.proofs.Tests.{neither, not-both, or-l, or-r, not-zero}
 use Rattle.tables.specs.declared.Tables.{Tables}
 use Rattle.tables.specs.Trailer.{trailer}
 use Rattle.tables.specs.Kinds.{grantKind, drawKind, callKind, returnKind, throwKind}
-use Rattle.tables.specs.Fields.{entryOf, nodeMethod, nodeKind, nodeNumber, nodeCount, flowFrom, flowTo, callNode, callMethod, catchFrom, catchException, catchTo, openingCount}
-use Rattle.refuse.specs.Bad.{notAbove, flowRow, callRow, catchRow, fewest, most, countBad, lengthBad, entryBad, outOfRange, nodeBad, flowBad, callBad, throwsOther, catchBad, uncalled, openingBad}
+use Rattle.tables.specs.Fields.{entryOf, nodeMethod, nodeKind, nodeNumber, nodeCount, flowFrom, flowTo, callNode, callMethod, parentOf, catchFrom, catchException, catchTo, openingCount}
+use Rattle.tables.specs.Family.{Nearest}
+use Rattle.tables.proofs.Family.{nearest-is, is-nearest}
+use Rattle.refuse.specs.Bad.{notAbove, flowRow, callRow, catchRow, fewest, most, countBad, lengthBad, entryBad, outOfRange, nodeBad, flowBad, callBad, parentBad, kin, throwsOther, catchBad, uncalled, openingBad}
 use Rattle.refuse.proofs.Order.{pair-rises, triple-rises, Rises, none-twice}
 
 rises : (row : ℕ → List ℕ) (k : ℕ) → notAbove row k ≡ false → Rises row k
 unfolding notAbove
 rises row k h z = not-false _ (not-both (not (eqb k 0)) _ h (simp (ne-eqb k 0 z)))
 
-own-exception : (kind number exception : ℕ) → throwsOther kind number exception ≡ false → kind ≡ throwKind → number ≡ exception
-unfolding throwsOther
-own-exception kind number exception h e = eqb-true _ _ (not-false _ (not-both _ _ (neither (not (eqb kind callKind) && not (eqb kind throwKind)) _ h .1) (eq-eqb kind throwKind e)))
-
 module _ (f : List ℕ) (t : Tables) where
+  -- c is the kind e or an ancestor of it
+  abbrev pub Kin : ℕ → ℕ → Type 0
+  Kin e c = Nearest f t (λ a. a ≡ c) e c
+
+  -- which is what the test says
+  pub kin-says : (e c : ℕ) → kin f t e c ≡ true → Kin e c
+  unfolding kin
+  kin-says e c h = subst (Nearest f t (λ a. a ≡ c) e) (eqb-true _ c h) (is-nearest f t (λ a. eqb a c) e (λ a l. eqb-true a c) (λ a l. eqb-false a c) e (omega arith) h)
+
+  pub says-kin : (e c : ℕ) → Kin e c → kin f t e c ≡ true
+  unfolding kin
+  says-kin e c r = eq-eqb _ c (nearest-is f t (λ a. eqb a c) e (λ a l. eqb-true a c) (λ a l. eqb-false a c) (omega arith) r)
+
+  own-kin : (n exception : ℕ) → throwsOther f t n exception ≡ false → nodeKind f t n ≡ throwKind → Kin (nodeNumber f t n) exception
+  unfolding throwsOther
+  own-kin n exception h e =
+      let neither-kind = not (eqb (nodeKind f t n) callKind) && not (eqb (nodeKind f t n) throwKind) in
+      kin-says _ _ (not-false _ (not-both _ _ (neither neither-kind _ h .1) (eq-eqb _ _ e)))
+
   pub record EntryFit (m : ℕ) : Type 0 where
     pub inside : entryOf f m < t .nodes
     pub own : nodeMethod f t (entryOf f m) ≡ m
@@ -56,7 +74,7 @@ module _ (f : List ℕ) (t : Tables) where
     pub from : catchFrom f t k < t .nodes
     pub to : catchTo f t k < t .nodes
     pub exception : catchException f t k ≤ 7
-    pub own : nodeKind f t (catchFrom f t k) ≡ throwKind → nodeNumber f t (catchFrom f t k) ≡ catchException f t k
+    pub own : nodeKind f t (catchFrom f t k) ≡ throwKind → Kin (nodeNumber f t (catchFrom f t k)) (catchException f t k)
     pub one-method : nodeMethod f t (catchFrom f t k) ≡ nodeMethod f t (catchTo f t k)
     pub higher : Rises (catchRow f t) k
 
@@ -120,6 +138,14 @@ module _ (f : List ℕ) (t : Tables) where
         higher = rises (callRow f t) k (w4 .1);
       }
 
+  pub parent-fit : (e : ℕ) → parentBad f t e ≡ false → (parentOf f t e < e) ⊎ (parentOf f t e ≡ 255)
+  unfolding parentBad
+  parent-fit e h = go (leb e (parentOf f t e)) refl
+    where
+      go : (b : Bool) → leb e (parentOf f t e) ≡ b → (parentOf f t e < e) ⊎ (parentOf f t e ≡ 255)
+      go true q = inr (eqb-true _ 255 (not-false _ (not-both _ _ h q)))
+      go false q = inl (leb-false e (parentOf f t e) q)
+
   pub catch-fit : (k : ℕ) → catchBad f t k ≡ false → CatchFit f t k
   unfolding catchBad
   catch-fit k h =
@@ -132,7 +158,7 @@ module _ (f : List ℕ) (t : Tables) where
         from = leb-false _ _ (w2 .0);
         to = leb-false _ _ (w2 .1);
         exception = ltb-false _ _ (w3 .1);
-        own = own-exception _ _ _ (w4 .1);
+        own = own-kin f t _ _ (w4 .1);
         one-method = eqb-true _ _ (not-false _ (w5 .1));
         higher = rises (catchRow f t) k (w6 .1);
       }

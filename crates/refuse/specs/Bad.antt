@@ -1,4 +1,4 @@
--- Which counts, lengths and rows are refused: the conditions of the table "What comes back", numbers 2 to 9 and 17.
+-- Which counts, lengths and rows are refused: the conditions of the table "What comes back", numbers 2 to 9, 15 and 17.
 use Prim.Native.Nat.{ℕ, _+_, _-_}
 use mathlib.Core.Bool.{Bool, false, _||_, _&&_, not}
 use mathlib.Core.List.{List, [], _∷_}
@@ -8,7 +8,8 @@ use Rattle.words.specs.Lowest.{lowest}
 use Rattle.tables.specs.declared.Tables.{Tables}
 use Rattle.tables.specs.Trailer.{trailer}
 use Rattle.tables.specs.Kinds.{grantKind, drawKind, callKind, returnKind, throwKind}
-use Rattle.tables.specs.Fields.{entryOf, nodeMethod, nodeKind, nodeNumber, nodeCount, nodeRights, flowFrom, flowTo, callNode, callMethod, catchFrom, catchException, catchTo, openingCount}
+use Rattle.tables.specs.Fields.{entryOf, nodeMethod, nodeKind, nodeNumber, nodeCount, nodeRights, flowFrom, flowTo, callNode, callMethod, parentOf, catchFrom, catchException, catchTo, openingCount}
+use Rattle.tables.specs.Family.{nearest}
 
 -- "Above" compares rows field by field, so no row comes twice.
 unfoldable pub above : List ℕ → List ℕ → Bool
@@ -103,20 +104,28 @@ callBad f t k =
     || leb (t .methods) (callMethod f t k)
     || notAbove (callRow f t) k
 
--- the node's kind can't throw the exception: neither call nor throw, or another exception than the throw's own
-unfoldable pub throwsOther : ℕ → ℕ → ℕ → Bool
-throwsOther kind number exception =
-    (not (eqb kind callKind) && not (eqb kind throwKind))
-    || (eqb kind throwKind && not (eqb number exception))
+-- 15: parent neither lower nor 255
+unfoldable pub parentBad : List ℕ → Tables → ℕ → Bool
+parentBad f t e = leb e (parentOf f t e) && not (eqb (parentOf f t e) 255)
 
--- 8: catches: an end is N or more, exception above 7, from neither call nor throw, another exception than the throw's own, two
--- methods, or not above the row before
+-- c is the kind e or an ancestor of it: from e upwards one comes to c
+unfoldable pub kin : List ℕ → Tables → ℕ → ℕ → Bool
+kin f t e c = eqb (nearest f t (λ a. eqb a c) e) c
+
+-- no row for the exception may stand at the node: neither call nor throw, or a throw, and it is neither "the kind" nor "an ancestor of it"
+unfoldable pub throwsOther : List ℕ → Tables → ℕ → ℕ → Bool
+throwsOther f t n exception =
+    (not (eqb (nodeKind f t n) callKind) && not (eqb (nodeKind f t n) throwKind))
+    || (eqb (nodeKind f t n) throwKind && not (kin f t (nodeNumber f t n) exception))
+
+-- 8: catches: an end is N or more, exception above 7, from neither call nor throw, another exception than the throw's own or an
+-- ancestor of it, two methods, or not above the row before
 unfoldable pub catchBad : List ℕ → Tables → ℕ → Bool
 catchBad f t k =
     leb (t .nodes) (catchFrom f t k)
     || leb (t .nodes) (catchTo f t k)
     || ltb 7 (catchException f t k)
-    || throwsOther (nodeKind f t (catchFrom f t k)) (nodeNumber f t (catchFrom f t k)) (catchException f t k)
+    || throwsOther f t (catchFrom f t k) (catchException f t k)
     || twoMethods f t (catchFrom f t k) (catchTo f t k)
     || notAbove (catchRow f t) k
 

@@ -1,9 +1,9 @@
-// Which counts, lengths and rows of a graph file are refused: the tests behind answers 2 to 9.
+// Which counts, lengths and rows of a graph file are refused: the tests behind answers 2 to 9 and 15.
 use tables::Tables;
 ghost use mathlib.Core.Path.{_≡_};
 ghost use mathlib.Core.Bool.{_||_, _&&_};
 ghost use lib.Dec.{ltb, eqb};
-ghost use Rattle.refuse.specs.Bad.{fewest, most, notAbove, flowRow, callRow, catchRow, countBad, lengthBad, entryBad, outOfRange, unusedSet, nodeBad, flowBad, callBad, throwsOther, catchBad, openingBad};
+ghost use Rattle.refuse.specs.Bad.{fewest, most, notAbove, flowRow, callRow, catchRow, countBad, lengthBad, entryBad, outOfRange, unusedSet, nodeBad, flowBad, callBad, parentBad, kin, throwsOther, catchBad, openingBad};
 
 const FEWEST: [u16; 6] = [1, 1, 0, 0, 0, 1];
 
@@ -150,6 +150,13 @@ pub fn call_bad(f: &[u8], t: Tables, k: u16) -> bool
     (t.nodes <= node) | (kind != tables::CALL) | (t.methods <= method) | falls
 }
 
+pub fn parent_bad(f: &[u8], t: Tables, e: u16) -> bool
+    ensures { λ r. ⌜ r ≡ parentBad (now (f .entry)) t e ⌝ }
+{
+    let parent = tables::parent(f, t, e);
+    (e <= parent) & (parent != 255)
+}
+
 fn catch_not_above(f: &[u8], t: Tables, k: u16) -> bool
     ensures { λ r. ⌜ r ≡ notAbove (catchRow (now (f .entry)) t) k ⌝ }
 {
@@ -173,11 +180,32 @@ fn catch_not_above(f: &[u8], t: Tables, k: u16) -> bool
     )
 }
 
-fn throws_other(kind: u16, number: u16, exception: u16) -> bool
-    ensures { λ r. ⌜ r ≡ throwsOther kind number exception ⌝ }
+// Whether c is the kind e or an ancestor of it. Each step leads to a lower number, so there is an end whatever the parents are.
+fn kin(f: &[u8], t: Tables, e: u16, c: u16) -> bool
+    ensures { λ r. ⌜ r ≡ kin (now (f .entry)) t e c ⌝ }
 {
-    let throw = kind == tables::THROW;
-    ((kind != tables::CALL) & !throw) | (throw & (number != exception))
+    let mut kind = e;
+    while kind != c {
+        let parent = tables::parent(f, t, kind);
+        if kind <= parent {
+            return false;
+        }
+        kind = parent;
+    }
+    true
+}
+
+fn throws_other(f: &[u8], t: Tables, n: u16, exception: u16) -> bool
+    ensures { λ r. ⌜ r ≡ throwsOther (now (f .entry)) t n exception ⌝ }
+{
+    let kind = tables::node_kind(f, t, n);
+    if kind == tables::CALL {
+        return false;
+    }
+    if kind != tables::THROW {
+        return true;
+    }
+    !kin(f, t, tables::node_number(f, t, n), exception)
 }
 
 pub fn catch_bad(f: &[u8], t: Tables, k: u16) -> bool
@@ -186,9 +214,7 @@ pub fn catch_bad(f: &[u8], t: Tables, k: u16) -> bool
     let from = tables::catch_from(f, t, k);
     let exception = tables::catch_exception(f, t, k);
     let to = tables::catch_to(f, t, k);
-    let kind = tables::node_kind(f, t, from);
-    let number = tables::node_number(f, t, from);
-    let other = throws_other(kind, number, exception);
+    let other = throws_other(f, t, from, exception);
     let a = tables::node_method(f, t, from);
     let b = tables::node_method(f, t, to);
     let falls = catch_not_above(f, t, k);

@@ -1,2 +1,3 @@
 pub mod Halve
 pub mod Stretches
+pub mod Families

@@ -10,11 +10,9 @@ use Rattle.words.proofs.Lowest.{Lowest, is-lowest}
 use Rattle.words.proofs.Turn.{all-at, all-true}
 use Rattle.tables.specs.declared.Tables.{Tables}
 use Rattle.tables.specs.declared.Table.{Table}
-use Rattle.tables.specs.declared.Table.the-variants.{Catches}
 use Rattle.tables.specs.Rows.{rowsOf}
-use Rattle.tables.specs.Fields.{catchFrom, catchException}
 use Rattle.rows.specs.declared.Stretch.{Stretch}
-use Rattle.rows.specs.Rows.{keyOf, Rises, firstRow, stretchOf, catchesOf, allIn}
+use Rattle.rows.specs.Rows.{keyOf, Rises, firstRow, stretchOf, allIn}
 use Rattle.rows.proofs.Halve.{AtLeast}
 
 -- row k is one of the stretch
@@ -78,17 +76,6 @@ module _ (f : List ℕ) (t : Tables) (table : Table) where
         let a : x ≤ keyOf f t table k = from-first x k (i .0) v in
         let b : keyOf f t table k < x + 1 = before-first (x + 1) k (i .1) in
         (v, omega arith)
-
--- of the catches, where every exception is at most 7: the rows for e at n
-module _ (f : List ℕ) (t : Tables) (h : Rises f t Catches) (seven : (k : ℕ) → k < t .catches → catchException f t k ≤ 7) (n e : ℕ) (small : e ≤ 7) where
-  pub in-catches : (k : ℕ) → k < t .catches → catchFrom f t k ≡ n → catchException f t k ≡ e → In (catchesOf f t n e) k
-  in-catches k l p q = in-stretch f t Catches h _ k l (omega arith)
-
-  pub of-catches : (k : ℕ) → In (catchesOf f t n e) k → (k < t .catches) × (catchFrom f t k ≡ n) × (catchException f t k ≡ e)
-  of-catches k i =
-      let w = of-stretch f t Catches h _ k i in
-      let b : catchException f t k ≤ 7 = seven k (w .0) in
-      (w .0, omega arith, omega arith)
 
 -- a test of each row of a stretch
 module _ (p : ℕ → Bool) (s : Stretch) where

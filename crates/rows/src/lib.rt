@@ -3,7 +3,7 @@ use tables::Table;
 use tables::Tables;
 ghost use mathlib.Core.Path.{_≡_};
 ghost use Prim.Native.Nat.{_<_};
-ghost use Rattle.rows.specs.Rows.{catchKey, keyOf, Sorted, firstRow, stretchOf, flowOf, callsOf, catchesOf, noRows, uncaughtOf, targetOf};
+ghost use Rattle.rows.specs.Rows.{catchKey, keyOf, Sorted, firstRow, stretchOf, flowOf, callsOf, ownOf, catchesOf, noRows, targetOf};
 
 // The rows from `from` on and before `to`.
 pub struct Stretch {
@@ -28,6 +28,7 @@ fn key(f: &[u8], t: Tables, table: Table, k: u16) -> u32
         Table::Nodes => k as u32,
         Table::Flow => tables::flow_from(f, t, k) as u32,
         Table::Calls => tables::call_node(f, t, k) as u32,
+        Table::Parents => k as u32,
         Table::Catches => catch_key(
             tables::catch_from(f, t, k),
             tables::catch_exception(f, t, k),
@@ -81,10 +82,10 @@ pub fn calls_of(f: &[u8], t: Tables, n: u16) -> Stretch
     with_key(f, t, Table::Calls, n as u32)
 }
 
-// and the catch rows at node n for the exception e.
-pub fn catches_of(f: &[u8], t: Tables, n: u16, e: u16) -> Stretch
+// and the catch rows at node n for the exception e itself.
+fn own_of(f: &[u8], t: Tables, n: u16, e: u16) -> Stretch
     requires { ⌜ Sorted (now f) t ⌝ }
-    ensures { λ r. ⌜ r ≡ catchesOf (now (f .entry)) t n e ⌝ }
+    ensures { λ r. ⌜ r ≡ ownOf (now (f .entry)) t n e ⌝ }
 {
     with_key(f, t, Table::Catches, catch_key(n, e))
 }
@@ -95,12 +96,22 @@ pub fn no_rows(s: Stretch) -> bool
     s.to <= s.from
 }
 
-// There is no catch row for the exception e at the node n.
-pub fn uncaught(f: &[u8], t: Tables, n: u16, e: u16) -> bool
+// The catch rows that apply to the exception e at node n: its own, or, if it has none, those of its nearest ancestor that has some.
+pub fn catches_of(f: &[u8], t: Tables, n: u16, e: u16) -> Stretch
     requires { ⌜ Sorted (now f) t ⌝ }
-    ensures { λ r. ⌜ r ≡ uncaughtOf (now (f .entry)) t n e ⌝ }
+    ensures { λ r. ⌜ r ≡ catchesOf (now (f .entry)) t n e ⌝ }
 {
-    no_rows(catches_of(f, t, n, e))
+    let mut kind = e;
+    let mut own = own_of(f, t, n, e);
+    while no_rows(own) {
+        let parent = tables::parent(f, t, kind);
+        if kind <= parent {
+            return own;
+        }
+        kind = parent;
+        own = own_of(f, t, n, kind);
+    }
+    own
 }
 
 // The node that row k leads to, 0 in a table that leads to none.
@@ -113,6 +124,7 @@ pub fn target(f: &[u8], t: Tables, table: Table, k: u16) -> u16
         Table::Nodes => 0,
         Table::Flow => tables::flow_to(f, t, k),
         Table::Calls => 0,
+        Table::Parents => 0,
         Table::Catches => tables::catch_to(f, t, k),
         Table::Opening => 0,
     }

@@ -94,7 +94,7 @@ fn of_rows(
     key
 }
 
-// The exception e comes to the node with y: its catch rows, by the rule `caught`, or the exit of the node's method, by the rule `out`.
+// The exception e comes to the node with y: the catch rows that apply, by the rule `caught`, or the exit of the node's method, by the rule `out`.
 fn leaving(
     f: &[u8],
     t: Tables,
@@ -257,6 +257,7 @@ fn of_row(f: &[u8], t: Tables, x: Shape, s: &[u8], table: Table, k: u16, least: 
         Table::Nodes => at_node(f, t, x, s, k, least),
         Table::Flow => along_flow(f, t, x, s, k, least),
         Table::Calls => of_call(f, t, x, s, k, least),
+        Table::Parents => least,
         Table::Catches => least,
         Table::Opening => least,
     }

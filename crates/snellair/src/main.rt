@@ -51,10 +51,10 @@ fn print(input: &[u8], listing: &[u8]) -> bool
 }
 
 // Its length is all that is said of each of these two, so that no proof has to look at its bytes.
-fn longest_file() -> [u8; 12455]
-    ensures { λ r. ⌜ 12455 ≡ length r ⌝ }
+fn longest_file() -> [u8; 12463]
+    ensures { λ r. ⌜ 12463 ≡ length r ⌝ }
 {
-    [0; 12455]
+    [0; 12463]
 }
 
 fn longest_listing() -> [u8; 46097]
@@ -68,7 +68,7 @@ fn list(input: &[u8], out: &mut [u8]) -> usize
     requires { ⌜ 46097 ≤ length (now out) ⌝ }
     ensures { λ r. ⌜ (r ≤ length (now (out .exit))) × Prints (now (input .entry)) (take r (now (out .exit))) ⌝ }
 {
-    if input.len() > 12454 {
+    if input.len() > 12462 {
         return text::put_first(out, 0, Answer::BadLength);
     }
     let j = graph::judged(input);

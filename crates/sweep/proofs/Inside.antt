@@ -6,7 +6,7 @@ use native.Mathlib.Omega.{arith}
 use lib.ListN.{length}
 use Rattle.tables.specs.declared.Tables.{Tables}
 use Rattle.tables.specs.declared.Table.{Table}
-use Rattle.tables.specs.declared.Table.the-variants.{Trailer, Methods, Nodes, Flow, Calls, Catches, Opening}
+use Rattle.tables.specs.declared.Table.the-variants.{Trailer, Methods, Nodes, Flow, Calls, Parents, Catches, Opening}
 use Rattle.tables.specs.Rows.{rowsOf}
 use Rattle.tables.specs.Kinds.{throwKind}
 use Rattle.tables.specs.Fields.{nodeMethod, nodeKind, nodeNumber, callNode, callMethod}
@@ -62,6 +62,7 @@ module _ {f : List ℕ} {t : Tables} {x : Shape} {s : List ℕ} (r : Ready f t x
   leads-inside Nodes j l = limit .some-node
   leads-inside Flow j l = flow-fit f t j (judged f t (r .passed) .flows j l) .to
   leads-inside Calls j l = limit .some-node
+  leads-inside Parents j l = limit .some-node
   leads-inside Catches j l = catch-fit f t j (judged f t (r .passed) .catches j l) .to
   leads-inside Opening j l = limit .some-node
 

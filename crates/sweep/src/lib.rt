@@ -62,7 +62,7 @@ fn each_row(
     told
 }
 
-// The exception e comes to the node n with y: its catch rows, or the exit of its method.
+// The exception e comes to the node n with y: the catch rows that apply, or the exit of its method.
 fn leaving(
     f: &[u8],
     t: Tables,
@@ -229,6 +229,7 @@ fn row(f: &[u8], t: Tables, x: Shape, s: &mut [u8], table: Table, k: u16, wrote:
         Table::Nodes => at_node(f, t, x, s, k, wrote),
         Table::Flow => along_flow(f, t, x, s, k, wrote),
         Table::Calls => of_call(f, t, x, s, k, wrote),
+        Table::Parents => wrote,
         Table::Catches => wrote,
         Table::Opening => wrote,
     }

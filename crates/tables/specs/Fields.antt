@@ -1,4 +1,4 @@
--- The fields of the six tables' rows. Row k of a table stands k rows past the table's start.
+-- The fields of the tables' rows. Row k of a table stands k rows past the table's start.
 use Prim.Native.Nat.{ℕ, _+_, _*_}
 use mathlib.Core.List.{List}
 use Rattle.words.specs.Bytes.{byteAt, wordAt}
@@ -37,6 +37,10 @@ callNode f t k = wordAt f (t .callsat + 4 * k)
 
 unfoldable pub callMethod : List ℕ → Tables → ℕ → ℕ
 callMethod f t k = wordAt f (t .callsat + 4 * k + 2)
+
+-- parents: a byte for each exception kind, "its parent, a lower number, or 255 for none"
+unfoldable pub parentOf : List ℕ → Tables → ℕ → ℕ
+parentOf f t e = byteAt f (t .parentsat + e)
 
 -- catches: from, exception, to
 unfoldable pub catchFrom : List ℕ → Tables → ℕ → ℕ

@@ -1,4 +1,5 @@
 pub mod Trailer
 pub mod Rows
 pub mod Fields
+pub mod Family
 pub mod Kinds

@@ -13,7 +13,7 @@ trailerAt f = length f - 14
 unfoldable pub trailer : List ℕ → ℕ → ℕ
 trailer f i = wordAt f (trailerAt f + 2 * i)
 
--- Six tables stand one after the other from byte 0. They end at 2M + 6N + 4F + 4C + 6X + 4T.
+-- Seven tables stand one after the other from byte 0; that of the parents has 8 bytes. They end at 2M + 6N + 4F + 4C + 8 + 6X + 4T.
 unfoldable pub tablesOf : List ℕ → Tables
 tablesOf f =
     record {
@@ -26,7 +26,8 @@ tablesOf f =
       nodesat = 2 * trailer f 0;
       flowsat = 2 * trailer f 0 + 6 * trailer f 1;
       callsat = 2 * trailer f 0 + 6 * trailer f 1 + 4 * trailer f 2;
-      catchesat = 2 * trailer f 0 + 6 * trailer f 1 + 4 * trailer f 2 + 4 * trailer f 3;
-      openingat = 2 * trailer f 0 + 6 * trailer f 1 + 4 * trailer f 2 + 4 * trailer f 3 + 6 * trailer f 4;
-      end = 2 * trailer f 0 + 6 * trailer f 1 + 4 * trailer f 2 + 4 * trailer f 3 + 6 * trailer f 4 + 4 * trailer f 5;
+      parentsat = 2 * trailer f 0 + 6 * trailer f 1 + 4 * trailer f 2 + 4 * trailer f 3;
+      catchesat = 2 * trailer f 0 + 6 * trailer f 1 + 4 * trailer f 2 + 4 * trailer f 3 + 8;
+      openingat = 2 * trailer f 0 + 6 * trailer f 1 + 4 * trailer f 2 + 4 * trailer f 3 + 8 + 6 * trailer f 4;
+      end = 2 * trailer f 0 + 6 * trailer f 1 + 4 * trailer f 2 + 4 * trailer f 3 + 8 + 6 * trailer f 4 + 4 * trailer f 5;
     }

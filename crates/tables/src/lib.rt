@@ -1,10 +1,10 @@
-// Where the six tables of a graph file stand, and the fields of their rows. What lies past the end of the file reads as 0.
+// Where the tables of a graph file stand, and the fields of their rows. What lies past the end of the file reads as 0.
 ghost use mathlib.Core.Path.{_≡_};
 ghost use Prim.Native.Nat.{_+_, _*_, _<_};
 ghost use Rattle.words.specs.Bytes.{byteAt, wordAt};
 ghost use Rattle.tables.specs.Trailer.{trailerAt, trailer, tablesOf};
 ghost use Rattle.tables.specs.Rows.{rowsOf};
-ghost use Rattle.tables.specs.Fields.{entryOf, nodeMethod, nodeKind, nodeNumber, nodeCount, nodeRights, flowFrom, flowTo, callNode, callMethod, catchFrom, catchException, catchTo, openingRights, openingCount};
+ghost use Rattle.tables.specs.Fields.{entryOf, nodeMethod, nodeKind, nodeNumber, nodeCount, nodeRights, flowFrom, flowTo, callNode, callMethod, parentOf, catchFrom, catchException, catchTo, openingRights, openingCount};
 
 // The kinds of nodes.
 pub const PLAIN: u16 = 0;
@@ -30,18 +30,20 @@ pub struct Tables {
     pub nodesat: u32,
     pub flowsat: u32,
     pub callsat: u32,
+    pub parentsat: u32,
     pub catchesat: u32,
     pub openingat: u32,
     pub end: u32,
 }
 
-// The six tables, and the trailer's counts as one more.
+// The seven tables, and the trailer's counts as one more.
 pub enum Table {
     Trailer,
     Methods,
     Nodes,
     Flow,
     Calls,
+    Parents,
     Catches,
     Opening,
 }
@@ -56,6 +58,7 @@ pub fn rows(t: Tables, table: Table) -> u16
         Table::Nodes => t.nodes,
         Table::Flow => t.flows,
         Table::Calls => t.calls,
+        Table::Parents => 8,
         Table::Catches => t.catches,
         Table::Opening => t.types,
     }
@@ -91,7 +94,8 @@ pub fn read(f: &[u8]) -> Tables
     let nodesat = 2 * (methods as u32);
     let flowsat = nodesat + 6 * (nodes as u32);
     let callsat = flowsat + 4 * (flows as u32);
-    let catchesat = callsat + 4 * (calls as u32);
+    let parentsat = callsat + 4 * (calls as u32);
+    let catchesat = parentsat + 8;
     let openingat = catchesat + 6 * (catches as u32);
     let end = openingat + 4 * (types as u32);
     Tables {
@@ -104,6 +108,7 @@ pub fn read(f: &[u8]) -> Tables
         nodesat,
         flowsat,
         callsat,
+        parentsat,
         catchesat,
         openingat,
         end,
@@ -192,6 +197,13 @@ pub fn call_method(f: &[u8], t: Tables, k: u16) -> u16
     ensures { λ r. ⌜ r ≡ callMethod (now (f .entry)) t k ⌝ }
 {
     word_of(f, t.callsat, 4, k, 2)
+}
+
+// of the parents, kind by kind,
+pub fn parent(f: &[u8], t: Tables, e: u16) -> u16
+    ensures { λ r. ⌜ (r ≡ parentOf (now (f .entry)) t e) × (r < 256) ⌝ }
+{
+    byte_of(f, t.parentsat, 1, e, 0)
 }
 
 // of the catches,

@@ -30,7 +30,7 @@ known-refused : firstLine (BadBlock 10204) ≡ ascii "refused 11 10204\n"
 unfolding firstLine refusedLine decimal placeText
 known-refused = refl
 
--- "For input longer than 12,454 bytes the program prints `refused 3 0`"
+-- "For input longer than" the longest file "the program prints `refused 3 0`"
 pub known-too-long : firstLine BadLength ≡ ascii "refused 3 0\n"
 unfolding firstLine refusedLine decimal placeText
 known-too-long = refl

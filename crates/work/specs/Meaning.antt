@@ -37,7 +37,7 @@ pub record Worked (f r : List ℕ) : Type 0 where
 
 -- The answer a, and the lent sheet: s before, r after.
 pub data WorksOut (f s r : List ℕ) (a : Answer) : Type 0 where
-  -- 1 to 9, 17: the file is refused, and the sheet is as it was
+  -- 1 to 9, 15, 17: the file is refused, and the sheet is as it was
   refused : (judgeOf f ≡ Pass → ⊥) → r ≡ s → SaysAs a (judgeOf f) → WorksOut f s r a
   -- 10: the sheet's length is wrong, and the sheet is as it was
   wrong-length : judgeOf f ≡ Pass → (length s ≡ sheetBytes (shape f) → ⊥) → r ≡ s → Says a 10 0 0 → WorksOut f s r a

@@ -18,15 +18,20 @@ returns-5 : tie.Need-returns-5
 returns-5 c = rw (c .before .enum-told5 .given .1) (c .call-bad .ensures)
 
 returns-6 : tie.Need-returns-6
-returns-6 c = rw (c .before .enum-told6 .given .1) (c .catch-bad .ensures)
+returns-6 c = rw (c .before .enum-told6 .given .1) (c .parent-bad .ensures)
 
 returns-7 : tie.Need-returns-7
-returns-7 c = rw (c .before .enum-told7 .given .1) (c .opening-bad .ensures)
+returns-7 c = rw (c .before .enum-told7 .given .1) (c .catch-bad .ensures)
+
+returns-8 : tie.Need-returns-8
+returns-8 c = rw (c .before .enum-told8 .given .1) (c .opening-bad .ensures)
 
 pub row-bad-spec : {M : Type 1} → statement M
 row-bad-spec =
     tie.close
     (tie.spec
+    (λ c. search needs)
+    (λ c κs. search needs)
     (λ c. search needs)
     (λ c κs. search needs)
     (λ c. search needs)
@@ -47,4 +52,5 @@ row-bad-spec =
     returns-4
     returns-5
     returns-6
-    returns-7)
+    returns-7
+    returns-8)

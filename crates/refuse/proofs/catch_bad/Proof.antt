@@ -7,11 +7,9 @@ returns : tie.Need-returns
 unfolding catchBad
 returns c =
     simp (
-      c .before .before .before .before .before .before .before .before .before .before .catch-from .ensures,
-      c .before .before .before .before .before .before .before .before .before .catch-exception .ensures,
-      c .before .before .before .before .before .before .before .before .catch-to .ensures,
-      c .before .before .before .before .before .before .before .node-kind .ensures .0,
-      c .before .before .before .before .before .before .node-number .ensures .0,
+      c .before .before .before .before .before .before .before .before .catch-from .ensures,
+      c .before .before .before .before .before .before .before .catch-exception .ensures,
+      c .before .before .before .before .before .before .catch-to .ensures,
       c .before .before .before .before .before .throws-other .ensures,
       c .before .before .before .before .node-method .ensures .0,
       c .before .before .before .node-method2 .ensures .0,
@@ -22,8 +20,6 @@ pub catch-bad-spec : {M : Type 1} → statement M
 catch-bad-spec =
     tie.close
     (tie.spec
-    (λ c κs. search needs)
-    (λ c κs. search needs)
     (λ c κs. search needs)
     (λ c κs. search needs)
     (λ c κs. search needs)

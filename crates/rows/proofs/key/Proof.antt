@@ -18,10 +18,13 @@ returns-5 : tie.Need-returns-5
 returns-5 c = rw (c .before .enum-told5 .given .1) (c .call-node .ensures)
 
 returns-6 : tie.Need-returns-6
-returns-6 c = simp (c .before .before .before .enum-told6 .given .1, ← c .before .before .catch-from .ensures, ← c .before .catch-exception .ensures) (c .catch-key .ensures)
+returns-6 c = rw (c .enum-told6 .given .1)
 
 returns-7 : tie.Need-returns-7
-returns-7 c = rw (c .enum-told7 .given .1)
+returns-7 c = simp (c .before .before .before .enum-told7 .given .1, ← c .before .before .catch-from .ensures, ← c .before .catch-exception .ensures) (c .catch-key .ensures)
+
+returns-8 : tie.Need-returns-8
+returns-8 c = rw (c .enum-told8 .given .1)
 
 pub key-spec : {M : Type 1} → statement M
 key-spec =
@@ -37,6 +40,7 @@ key-spec =
     (λ c κs. search needs)
     (λ c. search needs)
     (λ c. search needs)
+    (λ c. search needs)
     (λ c κs. search needs)
     (λ c κs. search needs)
     (λ c κs. search needs)
@@ -47,4 +51,5 @@ key-spec =
     returns-4
     returns-5
     returns-6
-    returns-7)
+    returns-7
+    returns-8)

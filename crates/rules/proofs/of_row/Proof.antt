@@ -23,5 +23,8 @@ returns-6 c = rw (c .enum-told6 .given .1)
 returns-7 : tie.Need-returns-7
 returns-7 c = rw (c .enum-told7 .given .1)
 
+returns-8 : tie.Need-returns-8
+returns-8 c = rw (c .enum-told8 .given .1)
+
 pub of-row-spec : {M : Type 1} → statement M
-of-row-spec = tie.close (tie.spec (λ c. search needs) (λ c. search needs) (λ c κs. search needs) (λ c. search needs) (λ c κs. search needs) (λ c. search needs) (λ c κs. search needs) (λ c. search needs) (λ c κs. search needs) (λ c. search needs) (λ c. search needs) returns returns-2 returns-3 returns-4 returns-5 returns-6 returns-7)
+of-row-spec = tie.close (tie.spec (λ c. search needs) (λ c. search needs) (λ c κs. search needs) (λ c. search needs) (λ c κs. search needs) (λ c. search needs) (λ c κs. search needs) (λ c. search needs) (λ c κs. search needs) (λ c. search needs) (λ c. search needs) (λ c. search needs) returns returns-2 returns-3 returns-4 returns-5 returns-6 returns-7 returns-8)

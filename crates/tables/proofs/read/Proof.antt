@@ -42,4 +42,5 @@ read-spec =
     (λ c. search needs)
     (λ c. search needs)
     (λ c. search needs)
+    (λ c. search needs)
     returns)

@@ -1,0 +1,11 @@
+use Rattle.refuse.specs.Bad.{parentBad}
+use borrow.Author.Needs.{needs}
+use Rattle.refuse.proofs.parent_bad.Statement.{statement}
+use Rattle.refuse.proofs.parent_bad.Tie as tie
+
+returns : tie.Need-returns
+unfolding parentBad
+returns c = simp (c .parent .ensures .0)
+
+pub parent-bad-spec : {M : Type 1} → statement M
+parent-bad-spec = tie.close (tie.spec (λ c κs. search needs) returns)
