@@ -93,7 +93,8 @@ module _ (f : List ℕ) (t : Tables) (x : Shape) {A : Type 0} (view : A → List
   unfoldable pub calledWalk : Called → A → A
   calledWalk c z = cond (c .marked) (inTurn (thrownWalk c) 0 8 (intoWalk c (afterWalk c z))) z
 
-  -- row k of a table; through parents and catches throws and calls ask, and a row of the trailer or of the opening stock asks nothing
+  -- row k of a table; throws and calls ask through the catch rows that apply, and a row of the trailer, the parents, the catches or the opening
+  -- stock asks nothing itself
   abbrev pub rowWalk : Table → ℕ → A → A
   rowWalk Trailer k z = z
   rowWalk Methods k z = entryWalk k z

@@ -30,11 +30,7 @@ heldAt s k = record { rights = getD (s .rights) k 0; count = getD (s .counts) k 
 abbrev pub stockOf : (ℕ → Held) → Stock
 stockOf f = record { rights = six (λ k. f k .rights); counts = six (λ k. f k .count) }
 
--- h where the test holds, else g; and what is held where nothing is
-abbrev pub heldIf : Bool → Held → Held → Held
-heldIf true h g = h
-heldIf false h g = g
-
+-- what is held where nothing is
 abbrev pub noneHeld : Held
 noneHeld = record { rights = 0; count = 0 }
 

@@ -117,6 +117,6 @@ ownRowFirst =
       opening = (0, 0) ∷ [];
     }
 
--- "Rows of a farther ancestor are dead": no run arrives at the parent's handler, and the file passes.
+-- "At a node, the catch rows of the thrown kind apply": no run arrives at the parent's handler, and the file passes.
 unfoldable pub beside : List (ℕ × Claim)
 beside = (12, unreached ownRowFirst 2) ∷ (12, passes ownRowFirst) ∷ []

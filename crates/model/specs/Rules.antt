@@ -69,7 +69,7 @@ module _ (W : Effects) (G : Graph) (step : ℕ → W .Effect) (opening : W .Stoc
     -- 8. Reached call, each method called: that method's stock is at most the call's, and if exit 0 is marked also after 1 to repeats - 1 times.
     rule8 : {c m : ℕ} → Call c → Reached W G T c → Calls c m → (j : ℕ) → Rounds c m j → AskMethod 8 m (apply (after c m j) (stock (method c)))
 
-  -- for a node's block,
+  -- for a node's block (a catch row is one that applies to the exception, as in the machine),
   pub data AskNode : ℕ → ℕ → Effect → Type 0 where
     -- 2. Every entry node: nothing done.
     rule2 : {m : ℕ} → m < methods → AskNode 2 (entry m) nothing

@@ -7,12 +7,11 @@ use native.Mathlib.Omega.{arith}
 use lib.Dec.{ltb}
 use borrow.Author.Tests.{ltb-true, ltb-false, leb-true, leb-false}
 use Rattle.words.proofs.Lowest.{Lowest, is-lowest}
-use Rattle.words.proofs.Turn.{all-at, all-true}
 use Rattle.tables.specs.declared.Tables.{Tables}
 use Rattle.tables.specs.declared.Table.{Table}
 use Rattle.tables.specs.Rows.{rowsOf}
 use Rattle.rows.specs.declared.Stretch.{Stretch}
-use Rattle.rows.specs.Rows.{keyOf, Rises, firstRow, stretchOf, allIn}
+use Rattle.rows.specs.Rows.{keyOf, Rises, firstRow, stretchOf}
 use Rattle.rows.proofs.Halve.{AtLeast}
 
 -- row k is one of the stretch
@@ -42,20 +41,6 @@ module _ (f : List ℕ) (t : Tables) (table : Table) where
         let b : keyOf f t table i ≤ keyOf f t table k = h i k l u in
         omega arith
 
-    pub from-within : (x : ℕ) → stretchOf f t table x .from ≤ stretchOf f t table x .to
-    unfolding stretchOf
-    from-within x = go (ltb (firstRow f t table (x + 1)) (firstRow f t table x)) refl
-      where
-        go : (b : Bool) → ltb (firstRow f t table (x + 1)) (firstRow f t table x) ≡ b → firstRow f t table x ≤ firstRow f t table (x + 1)
-        go true q =
-            let i = firstRow f t table (x + 1) in
-            let l : i < firstRow f t table x = ltb-true i (firstRow f t table x) q in
-            let u = first-lowest x .within in
-            let a : keyOf f t table i < x = before-first x i l in
-            let b : x + 1 ≤ keyOf f t table i = from-first (x + 1) i (omega arith) (omega arith) in
-            absurd (omega arith)
-        go false q = ltb-false (firstRow f t table (x + 1)) (firstRow f t table x) q
-
     pub in-stretch : (x k : ℕ) → k < rowsOf t table → keyOf f t table k ≡ x → In (stretchOf f t table x) k
     unfolding stretchOf
     in-stretch x k u e = (low (ltb k (firstRow f t table x)) refl, high (ltb k (firstRow f t table (x + 1))) refl)
@@ -76,11 +61,3 @@ module _ (f : List ℕ) (t : Tables) (table : Table) where
         let a : x ≤ keyOf f t table k = from-first x k (i .0) v in
         let b : keyOf f t table k < x + 1 = before-first (x + 1) k (i .1) in
         (v, omega arith)
-
--- a test of each row of a stretch
-module _ (p : ℕ → Bool) (s : Stretch) where
-  pub all-in : allIn p s ≡ true → (k : ℕ) → In s k → p k ≡ true
-  all-in h k i = all-at p (s .from) (s .to - s .from) h k (i .0) (omega (arith, i .0, i .1))
-
-  pub in-all : ((k : ℕ) → In s k → p k ≡ true) → allIn p s ≡ true
-  in-all h = all-true p (s .from) (s .to - s .from) (λ k l u. h k (l, omega arith))

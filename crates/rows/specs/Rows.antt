@@ -4,7 +4,7 @@ use mathlib.Core.Bool.{Bool, not}
 use mathlib.Core.List.{List}
 use lib.Dec.{leb}
 use Rattle.words.specs.Lowest.{lowest}
-use Rattle.words.specs.Turn.{inTurn, allFor}
+use Rattle.words.specs.Turn.{inTurn}
 use Rattle.tables.specs.declared.Tables.{Tables}
 use Rattle.tables.specs.declared.Table.{Table}
 use Rattle.tables.specs.declared.Table.the-variants.{Trailer, Methods, Nodes, Flow, Calls, Parents, Catches, Opening}
@@ -80,9 +80,6 @@ targetOf f t Parents k = 0
 targetOf f t Catches k = catchTo f t k
 targetOf f t Opening k = 0
 
--- p holds of each row of the stretch; and each row's step, in turn
-abbrev pub allIn : (ℕ → Bool) → Stretch → Bool
-allIn p s = allFor p (s .from) (s .to - s .from)
-
+-- each row's step, in turn
 abbrev pub eachIn : {A : Type 0} → (ℕ → A → A) → Stretch → A → A
 eachIn act s = inTurn act (s .from) (s .to - s .from)
