@@ -80,7 +80,8 @@ static struct meaning meaning_of(unsigned number)
     return answers[number];
 }
 
-/* What the answer names: a place, and beside it a type of resource. */
+/* What the answer names: a place, and beside it a type of resource and, where
+ * the author's compiler told it, the source line of the node. */
 static void print_named(uint64_t answer, const char *place)
 {
     unsigned number = SNELLAIR_NUMBER(answer), type = SNELLAIR_TYPE(answer);
@@ -89,6 +90,8 @@ static void print_named(uint64_t answer, const char *place)
         printf(", marks alone");
     else if (number == SNELLAIR_BROKEN_RULE || number == SNELLAIR_OVERDRAWN)
         printf(", type %u", type);
+    if (SNELLAIR_LINE(answer) != 0)
+        printf(", line %u", SNELLAIR_LINE(answer));
     printf(")");
 }
 

@@ -62,11 +62,12 @@ uint64_t snellair_one_shot(const uint8_t *graph, size_t graph_len);
  * nothing of whether its permits suffice. */
 uint64_t snellair_session(const uint8_t *graph, size_t graph_len);
 
-/* The parts of an answer. The line is 0 in this release. */
+/* The parts of an answer: number, type, place, and the source line of the
+ * node where the place is one. */
 #define SNELLAIR_NUMBER(answer) ((unsigned)((answer) & 0xFFu))
 #define SNELLAIR_TYPE(answer) ((unsigned)((answer) >> 8 & 0xFFu))
 #define SNELLAIR_PLACE(answer) ((unsigned long)((answer) >> 16 & 0xFFFFFFu))
-#define SNELLAIR_LINE(answer) ((unsigned long)((answer) >> 40 & 0xFFFFFFu))
+#define SNELLAIR_LINE(answer) ((unsigned)((answer) >> 40 & 0xFFFFu))
 
 /* The numbers, and what the place tells. 0 and 13 are verdicts, the others
  * refusals; 11 and 12 come from check only, 14 from the profiles only, 26 from
@@ -74,7 +75,9 @@ uint64_t snellair_session(const uint8_t *graph, size_t graph_len);
  * 17, 9, then 10 to 14, and 0 where none does; within a table the lowest row.
  * 12 and 13 also name a type: 13 that of the draw, 12 the lowest that fails in
  * any place where that rule is broken, or SNELLAIR_MARKS_ALONE when marks are
- * all that is missing. All others have type 0. */
+ * all that is missing. All others have type 0. 5, 13, 14 and 17 also name the
+ * source line of the node, as its row says it, 0 for none. All others have
+ * line 0. */
 enum snellair_number {
     SNELLAIR_PASS = 0,         /* 0 */
     SNELLAIR_TOO_SHORT = 1,    /* 0: fewer than 14 bytes */
@@ -103,12 +106,12 @@ enum snellair_number {
 #define SNELLAIR_MOST_METHODS 64u
 #define SNELLAIR_MOST_NODES 512u
 #define SNELLAIR_MOST_TYPES 6u
-#define SNELLAIR_LONGEST_GRAPH 12462u
+#define SNELLAIR_LONGEST_GRAPH 13486u
 #define SNELLAIR_LONGEST_SHEET \
     SNELLAIR_SHEET_BYTES(SNELLAIR_MOST_METHODS, SNELLAIR_MOST_NODES, \
                          SNELLAIR_MOST_TYPES)
 
-#define SNELLAIR_LISTING_ROOM 46097u
+#define SNELLAIR_LISTING_ROOM 46103u
 
 /* The bytes of the sheet of a graph with so many methods, nodes and types:
  * the first, second and sixth count of its trailer. */

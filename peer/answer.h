@@ -1,4 +1,4 @@
-/* The packed answer: number + 256 * type + 65,536 * place. */
+/* The packed answer: number + 256 * type + 65,536 * place + 2^40 * line. */
 #ifndef PEER_ANSWER_H
 #define PEER_ANSWER_H
 
@@ -16,6 +16,12 @@ static inline uint64_t packed_type(unsigned number, unsigned type,
     return packed(number, place) + ((uint64_t)type << 8);
 }
 
+/* An answer with a node as its place carries the node's source line. */
+static inline uint64_t packed_line(uint64_t answer, unsigned line)
+{
+    return answer + ((uint64_t)line << 40);
+}
+
 static inline unsigned number_in(uint64_t answer)
 {
     return (unsigned)(answer & 0xFF);
@@ -29,6 +35,16 @@ static inline unsigned type_in(uint64_t answer)
 static inline unsigned place_in(uint64_t answer)
 {
     return (unsigned)(answer >> 16 & 0xFFFFFF);
+}
+
+static inline unsigned line_in(uint64_t answer)
+{
+    return (unsigned)(answer >> 40 & 0xFFFF);
+}
+
+static inline uint64_t without_line(uint64_t answer)
+{
+    return answer & (((uint64_t)1 << 40) - 1);
 }
 
 #endif

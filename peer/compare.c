@@ -26,7 +26,8 @@ struct one_case {
 
 /* What came of each comparison. */
 struct tallies {
-    struct tally wrong_length, work_out, check, one_shot, session, fitting, damaged;
+    struct tally wrong_length, work_out, check, one_shot, session, fitting;
+    struct tally damaged, lines;
 };
 
 /* Both sides are lent the same bytes. */
@@ -52,8 +53,8 @@ static bool blame(const struct one_case *c, const char *operation,
 
 static void print_answer(const char *whose, uint64_t answer)
 {
-    printf("%s %u, type %u, at %u", whose, number_in(answer), type_in(answer),
-           place_in(answer));
+    printf("%s %u, type %u, at %u, line %u", whose, number_in(answer),
+           type_in(answer), place_in(answer), line_in(answer));
 }
 
 static void print_difference(const struct one_case *c, const char *operation,
@@ -210,6 +211,40 @@ static bool compare_damaged(struct random *r, struct one_case *c,
     return true;
 }
 
+enum { ANSWERS = 5 };
+
+/* All that Snellair says of a file and a sheet, which it works out anew. */
+static void ask_snellair(const struct one_case *c, uint8_t *sheet,
+                         uint64_t answer[ANSWERS])
+{
+    answer[0] = snellair_check(c->graph, c->graph_len, sheet, c->sheet_len);
+    answer[1] = snellair_work_out(c->graph, c->graph_len, sheet, c->sheet_len);
+    answer[2] = snellair_check(c->graph, c->graph_len, sheet, c->sheet_len);
+    answer[3] = snellair_one_shot(c->graph, c->graph_len);
+    answer[4] = snellair_session(c->graph, c->graph_len);
+}
+
+/* Two files that differ only in lines get the same but for the line. */
+static bool compare_lines(struct random *r, struct one_case *c,
+                          size_t sheet_len, struct tally *tally)
+{
+    uint64_t one[ANSWERS], other[ANSWERS];
+    lend(c, sheet_len);
+    ask_snellair(c, c->ours + MARGIN, one);
+    tally_note(tally, one[1]);
+    if (number_in(one[1]) >= 1 && number_in(one[1]) <= 3)
+        return true;
+    generate_lines(r, c->graph, c->graph_len);
+    ask_snellair(c, c->theirs + MARGIN, other);
+    memcpy(c->graph, c->graph_before, c->graph_len);
+    for (unsigned i = 0; i < ANSWERS; i++)
+        if (without_line(one[i]) != without_line(other[i]))
+            return blame(c, "other lines", "another answer");
+    if (memcmp(c->ours, c->theirs, sheet_len + 2 * MARGIN) != 0)
+        return blame(c, "other lines", "another sheet");
+    return true;
+}
+
 static bool compare_case(struct one_case *c, struct tallies *tallies)
 {
     struct random r = random_of(c->seed, c->number);
@@ -230,6 +265,7 @@ static bool compare_case(struct one_case *c, struct tallies *tallies)
     }
     work_out_for_other_opening(&r, c);
     return compare_check(c, right, &tallies->check)
+        && compare_lines(&r, c, right, &tallies->lines)
         && compare_profiles(c, tallies) && compare_fitting(&r, c, tallies)
         && compare_damaged(&r, c, tallies);
 }
@@ -257,6 +293,7 @@ int main(int argc, char **argv)
     tally_print("session", &tallies.session);
     tally_print("damaged files", &tallies.damaged);
     tally_print("work out where one-shot fits", &tallies.fitting);
+    tally_print("other lines", &tallies.lines);
     printf("%" PRIu64 " cases, no difference\n", cases);
     if (2 * tally_verdicts(&tallies.work_out) < cases) {
         printf("fewer than half of the graphs came to a verdict\n");

@@ -1,6 +1,6 @@
 /* What crates/work_corpus prints, by the peer: for each file named, the name,
- * the answer's number, type and place; after a verdict each marked block of
- * the sheet, by its first word's number and then its words. */
+ * the answer's number, type, place and line; after a verdict each marked block
+ * of the sheet, by its first word's number and then its words. */
 #include "answer.h"
 #include "format.h"
 #include "peer.h"
@@ -30,8 +30,8 @@ static void print_file(const char *name, const uint8_t *graph, size_t length)
         s = shape_of(graph, length);
         answer = peer_work_out(graph, length, sheet, sheet_bytes(s));
     }
-    printf("%s %u %u %u\n", name, number_in(answer), type_in(answer),
-           place_in(answer));
+    printf("%s %u %u %u %u\n", name, number_in(answer), type_in(answer),
+           place_in(answer), line_in(answer));
     for (unsigned block = 0; block < block_count(s); block++)
         print_block(s, sheet, block);
 }

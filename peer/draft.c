@@ -182,7 +182,8 @@ static uint8_t *put_node(uint8_t *at, const struct draft_node *node)
     at[1] = node->kind;
     at[2] = node->number;
     at[3] = node->count;
-    return put(at + 4, node->rights);
+    at = put(at + 4, node->rights);
+    return put(at, node->line);
 }
 
 static uint8_t *put_rows(uint8_t *at, const struct draft_rows *rows,

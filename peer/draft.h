@@ -9,7 +9,7 @@
 
 struct draft_node {
     uint8_t method, kind, number, count;
-    uint16_t rights;
+    uint16_t rights, line;
 };
 
 /* Rows of flow, calls or catches; a field that a table lacks is 0. */

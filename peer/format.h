@@ -19,11 +19,12 @@ enum {
     EXCEPTIONS = 8,  /* each has a parent, one byte, just before the catches */
     NO_PARENT = 255,
     TRAILER_BYTES = 14,
-    MOST_GRAPH_BYTES = 12462,
+    MOST_ROW_BYTES = 8,
+    MOST_GRAPH_BYTES = 13486,
     MOST_SHEET_BYTES = 56064
 };
 
-static const unsigned row_bytes[TABLES] = {2, 6, 4, 4, 6, 4};
+static const unsigned row_bytes[TABLES] = {2, MOST_ROW_BYTES, 4, 4, 6, 4};
 
 static inline unsigned read_word(const uint8_t *at)
 {

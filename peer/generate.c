@@ -142,6 +142,12 @@ static void add_node(struct random *r, const struct sizes *most,
     }
 }
 
+static unsigned random_line(struct random *r)
+{
+    static const unsigned edges[4] = {0, 1, 255, 0xFFFF};
+    return one_in(r, 2) ? edges[random_below(r, 4)] : random_below(r, 0x10000);
+}
+
 /* Any node of this kind, or any node at all if there is none. */
 static unsigned any_of_kind(struct random *r, const struct draft *d,
                             enum kind kind)
@@ -238,8 +244,10 @@ static void generate_exact(struct random *r, const struct sizes *exact,
     for (unsigned m = 0; m < d->methods; m++)
         if (one_in(r, 4))
             d->entry[m] = (uint16_t)other_node(r, d, d->entry[m]);
-    for (unsigned n = 0; n < d->nodes; n++)
+    for (unsigned n = 0; n < d->nodes; n++) {
+        d->node[n].line = (uint16_t)random_line(r);
         add_rows(r, d, n);
+    }
     for (unsigned t = 0; t < d->types; t++) {
         d->opening_rights[t] = (uint16_t)random_rights(r, true);
         d->opening_count[t] = (uint16_t)random_count(r, exact);
@@ -280,12 +288,25 @@ void generate_limit_graph(struct random *r, struct draft *d)
     lose_call_rows(r, d);
 }
 
+void generate_lines(struct random *r, uint8_t *graph, size_t length)
+{
+    struct shape s = shape_of(graph, length);
+    uint8_t *row = graph + row_bytes[METHODS] * s.methods;
+    for (unsigned n = 0; n < s.nodes; n++, row += row_bytes[NODES])
+        write_word(row + 6, random_line(r));
+}
+
 /* ---- Profiles ---- */
+
+static void make(struct draft_node *node, enum kind kind)
+{
+    *node = (struct draft_node){.method = node->method, .kind = (uint8_t)kind,
+                                .line = node->line};
+}
 
 static void make_plain(struct draft *d, unsigned node)
 {
-    struct draft_node plain = {.method = d->node[node].method, .kind = PLAIN};
-    d->node[node] = plain;
+    make(&d->node[node], PLAIN);
 }
 
 /* Has a plain node or a grant ask for a draw. It can do so for draws of one
@@ -382,8 +403,7 @@ static void change_kind(struct random *r, struct draft *d)
     struct draft_node *n = &d->node[any_of_kind(r, d, kind)];
     if (n->kind > DRAW)
         return;
-    *n = (struct draft_node){.method = n->method,
-                             .kind = (uint8_t)kinds[random_below(r, 3)]};
+    make(n, kinds[random_below(r, 3)]);
     if (n->kind == GRANT)
         n->count = one_in(r, 2) ? ENDLESS : 1;
 }
@@ -455,7 +475,7 @@ static void damage_order(struct random *r, const struct draft *d,
 {
     enum table table = random_below(r, TABLES);
     unsigned rows = draft_row_count(d, table);
-    uint8_t first[6];
+    uint8_t first[MOST_ROW_BYTES];
     if (rows < 2)
         return;
     uint8_t *at = graph + draft_table_at(d, table)

@@ -36,6 +36,9 @@ void generate_limit_graph(struct random *r, struct draft *d);
 void generate_one_shot(struct random *r, struct draft *d);
 void generate_session(struct random *r, struct draft *d);
 
+/* Gives every node of a file any line. The file is not answered 1 to 3. */
+void generate_lines(struct random *r, uint8_t *graph, size_t length);
+
 /* Changes one field that a profile looks at; the graph stays well formed. */
 void generate_profile_change(struct random *r, struct draft *d);
 

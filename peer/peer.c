@@ -65,6 +65,18 @@ static unsigned rights_of(const struct graph *g, unsigned node)
     return cell(g, NODES, node, 2);
 }
 
+/* Never judged. */
+static unsigned line_of(const struct graph *g, unsigned node)
+{
+    return cell(g, NODES, node, 3);
+}
+
+/* An answer whose place is a node. */
+static uint64_t with_line(const struct graph *g, uint64_t answer)
+{
+    return packed_line(answer, line_of(g, place_in(answer)));
+}
+
 static struct rows rows_of(const struct graph *g, enum table t, unsigned node)
 {
     const unsigned *first = g->first_row[t - FLOW];
@@ -240,7 +252,8 @@ static uint64_t judge_table(const struct graph *g, enum table t)
         bad_entry, bad_node, bad_flow, bad_call, bad_catch, bad_opening};
     for (unsigned row = 0; row < g->count[t]; row++)
         if (bad[t](g, row))
-            return packed(4 + t, row);
+            return t == NODES ? with_line(g, packed(5, row))
+                              : packed(4 + t, row);
     return 0;
 }
 
@@ -271,7 +284,7 @@ static uint64_t judge_calls_to_nobody(const struct graph *g)
     for (unsigned node = 0; node < g->count[NODES]; node++) {
         struct rows calls = rows_of(g, CALLS, node);
         if (kind_of(g, node) == CALL && calls.first == calls.end)
-            return packed(17, node);
+            return with_line(g, packed(17, node));
     }
     return 0;
 }
@@ -522,7 +535,7 @@ static uint64_t verdict(const struct graph *g, const uint8_t *sheet)
             continue;
         unsigned t = number_of(g, node);
         if (!covers(then(stock.of[t], e.of[t]), rights_of(g, node)))
-            return packed_type(13, t, node);
+            return with_line(g, packed_type(13, t, node));
     }
     return 0;
 }
@@ -813,7 +826,7 @@ static uint64_t judge_profile(const uint8_t *graph, size_t graph_len,
     find(&g, unfit);
     for (unsigned node = 0; node < g.count[NODES]; node++)
         if (unfit[node])
-            return packed(14, node);
+            return with_line(&g, packed(14, node));
     return 0;
 }
 

@@ -153,6 +153,25 @@ static uint8_t *copy_of(const uint8_t *bytes, size_t length)
     return copy;
 }
 
+/* The line of the node that an answer names, if it names one. */
+static unsigned line_due(const uint8_t *graph, size_t length, uint64_t answer)
+{
+    unsigned number = number_in(answer), node = place_in(answer);
+    if (number != 5 && number != 13 && number != 14 && number != 17)
+        return 0;
+    struct shape s = shape_of(graph, length);
+    expect(node < s.nodes, "place of a node", node);
+    return read_word(graph + 2 * s.methods + 8 * node + 6);
+}
+
+static uint64_t expect_line(const uint8_t *graph, size_t length,
+                            uint64_t answer)
+{
+    expect(packed_line(without_line(answer), line_due(graph, length, answer))
+               == answer, "line", answer);
+    return answer;
+}
+
 static uint64_t check(const uint8_t *graph, size_t length,
                       const uint8_t *sheet, size_t sheet_len)
 {
@@ -161,7 +180,7 @@ static uint64_t check(const uint8_t *graph, size_t length,
     uint64_t answer = peer_check(lent_graph, length, lent_sheet, sheet_len);
     free(lent_graph);
     free(lent_sheet);
-    return answer;
+    return expect_line(graph, length, answer);
 }
 
 /* Works out by both engines, which must agree, and has check look at it. */
@@ -209,13 +228,19 @@ static bool stock_at(const struct draft *d, const uint8_t *sheet,
     return true;
 }
 
+/* An answer whose place is a node. */
+static uint64_t at_node(const struct draft *d, uint64_t answer)
+{
+    return packed_line(answer, d->node[place_in(answer)].line);
+}
+
 /* ---- Calls to nobody ---- */
 
 /* Answer 17 if it applies to this graph, else 0. */
 static uint64_t lost_call(const struct draft *d)
 {
     unsigned node = draft_lost_call(d);
-    return node < MOST_NODES ? packed(17, node) : 0;
+    return node < MOST_NODES ? at_node(d, packed(17, node)) : 0;
 }
 
 /* What a generated graph may be answered. */
@@ -261,15 +286,16 @@ static void test_calls_to_nobody(struct draft *d, uint8_t *sheet)
 
 static void test_file_a(struct draft *d, uint8_t *sheet)
 {
-    static const uint8_t written[76] = {
+    static const uint8_t written[86] = {
         0, 0, 3, 0,
-        0, 1, 0, 2, 1, 1, 0, 3, 0, 2, 0, 0, 0, 4, 0, 0, 0, 0,
-        1, 2, 0, 0, 1, 1, 1, 4, 0, 0, 0, 0,
+        0, 1, 0, 2, 1, 1, 0, 0, 0, 3, 0, 2, 0, 0, 0, 0,
+        0, 4, 0, 0, 0, 0, 0, 0, 1, 2, 0, 0, 1, 1, 0, 0,
+        1, 4, 0, 0, 0, 0, 0, 0,
         0, 0, 1, 0, 1, 0, 2, 0, 3, 0, 4, 0,
         1, 0, 1, 0,
         255, 255, 255, 255, 255, 255, 255, 255,
         0, 0, 0, 0,
-        2, 0, 5, 0, 3, 0, 1, 0, 0, 0, 1, 0, 0x3E, 0};
+        2, 0, 5, 0, 3, 0, 1, 0, 0, 0, 1, 0, 0x48, 0};
     static const unsigned listed[5][2] = {
         {0x0000, 0}, {0x0101, 2}, {0x0101, 0}, {0x0101, 1}, {0x0101, 0}};
     uint8_t graph[MOST_GRAPH_BYTES];
@@ -285,6 +311,8 @@ static void test_file_a(struct draft *d, uint8_t *sheet)
     }
     draft_file_a(d, 2, 3);
     expect(work_out_draft(d, sheet) == packed(13, 3), "K2", 0);
+    d->node[3].line = 0xABCD;
+    expect(work_out_draft(d, sheet) == 0xABCD000003000D, "K2 with a line", 0);
     draft_file_a(d, 255, 255);
     expect(work_out_draft(d, sheet) == 0, "K3", 0);
 }
@@ -322,10 +350,21 @@ static void test_k9_to_k11(struct draft *d, uint8_t *sheet)
 
 static void test_refusals(struct draft *d, uint8_t *sheet)
 {
+    /* from before there were parents and lines */
+    static const uint8_t old[68] = {
+        0, 0, 3, 0,
+        0, 1, 0, 2, 1, 1, 0, 3, 0, 2, 0, 0, 0, 4, 0, 0, 0, 0,
+        1, 2, 0, 0, 1, 1, 1, 4, 0, 0, 0, 0,
+        0, 0, 1, 0, 1, 0, 2, 0, 3, 0, 4, 0,
+        1, 0, 1, 0,
+        0, 0, 0, 0,
+        2, 0, 5, 0, 3, 0, 1, 0, 0, 0, 1, 0, 0x36, 0};
     uint8_t graph[MOST_GRAPH_BYTES];
     draft_file_a(d, 2, 2);
     size_t length = draft_write(d, graph), len = sheet_bytes(draft_shape(d));
     uint8_t *trailer = graph + draft_table_at(d, TABLES);
+    expect(work_out(old, sizeof old, sheet, len) == packed(3, 0), "old file A",
+           0);
     expect(work_out(graph, 13, sheet, len) == packed(1, 0), "13 bytes", 0);
     write_word(trailer + 2 * NODES, 0);
     expect(work_out(graph, length, sheet, len) == packed(2, 1), "N = 0", 0);
@@ -369,15 +408,19 @@ static void test_places_of_refusals(struct draft *d, uint8_t *sheet)
         {OPENING, 0, 3, 1, 9, 0}}; /* opening count 256 */
     uint8_t graph[MOST_GRAPH_BYTES];
     draft_file_a(d, 2, 2);
+    for (unsigned n = 0; n < d->nodes; n++)
+        d->node[n].line = (uint16_t)(0xFFFF - n);
     size_t length = draft_write(d, graph), len = sheet_bytes(draft_shape(d));
     for (unsigned i = 0; i < sizeof damaged / sizeof damaged[0]; i++) {
         const struct damage *a = &damaged[i];
+        uint64_t refusal = packed(a->number, a->place);
         size_t at = draft_table_at(d, a->table)
                   + a->row * row_bytes[a->table] + a->byte;
         uint8_t before = graph[at];
         graph[at] = (uint8_t)a->value;
         expect(work_out(graph, length, sheet, len)
-                   == packed(a->number, a->place), "refused", i);
+                   == (a->table == NODES ? at_node(d, refusal) : refusal),
+               "refused", i);
         graph[at] = before;
     }
     uint8_t *flow = graph + draft_table_at(d, FLOW);
@@ -818,7 +861,7 @@ static uint64_t lowest_that(bool breaks(const struct draft *, unsigned),
         return lost_call(d);
     for (unsigned node = 0; node < d->nodes; node++)
         if (breaks(d, node))
-            return packed(14, node);
+            return at_node(d, packed(14, node));
     return 0;
 }
 
@@ -964,15 +1007,19 @@ static bool is_below(struct shape s, const uint8_t *sheet,
 static void test_sheets_of(struct random *r, const struct draft *d,
                            const uint8_t *greatest, struct tally *seen)
 {
-    uint8_t graph[MOST_GRAPH_BYTES], sheet[ROOM];
+    uint8_t graph[MOST_GRAPH_BYTES], other_lines[MOST_GRAPH_BYTES], sheet[ROOM];
     size_t length = draft_write(d, graph);
     struct shape s = draft_shape(d);
+    draft_write(d, other_lines);
+    generate_lines(r, other_lines, length);
     for (unsigned i = 0; i < 3 * SHEET_KINDS; i++) {
         enum sheet_kind kind = i % SHEET_KINDS;
         size_t sheet_len = generate_sheet(r, kind, d, greatest, sheet);
         uint64_t answer = check(graph, length, sheet, sheet_len);
         bool is_broken = number_in(answer) == 12;
         tally_note(seen, answer);
+        expect(without_line(check(other_lines, length, sheet, sheet_len))
+                   == without_line(answer), "other lines, check", answer);
         if (is_verdict(answer))
             expect(is_below(s, sheet, greatest), "obeys, so below", answer);
         if (is_verdict(answer) || is_broken)
@@ -1032,6 +1079,54 @@ static void test_damaged_files(unsigned cases, struct draft *d, uint8_t *sheet)
     tally_print("damaged files", &worked);
 }
 
+/* ---- Lines ---- */
+
+enum { ANSWERS = 3 };
+
+/* Of each operation, without the line. */
+static void ask_all(const uint8_t *graph, size_t length, uint8_t *sheet,
+                    size_t sheet_len, uint64_t answer[ANSWERS])
+{
+    answer[0] = without_line(work_out(graph, length, sheet, sheet_len));
+    answer[1] = without_line(peer_one_shot(graph, length));
+    answer[2] = without_line(peer_session(graph, length));
+}
+
+static void test_lines_of(struct random *r, uint8_t *graph, size_t length,
+                          uint8_t *sheet, size_t sheet_len, struct tally *seen)
+{
+    uint8_t *other_sheet = copy_of(sheet, sheet_len);
+    uint64_t one[ANSWERS], other[ANSWERS];
+    ask_all(graph, length, sheet, sheet_len, one);
+    tally_note(seen, one[0]);
+    if (number_in(one[0]) < 1 || number_in(one[0]) > 3) {
+        generate_lines(r, graph, length);
+        ask_all(graph, length, other_sheet, sheet_len, other);
+        expect(memcmp(one, other, sizeof one) == 0, "other lines", one[0]);
+        expect(memcmp(sheet, other_sheet, sheet_len) == 0,
+               "other lines, sheet", one[0]);
+    }
+    free(other_sheet);
+}
+
+/* Pairs of files that differ only in lines, half of them damaged before. */
+static void test_lines(unsigned cases, struct draft *d, uint8_t *sheet)
+{
+    struct tally seen = {0};
+    for (unsigned i = 0; i < cases; i++) {
+        struct random r = random_of(SEED + 7, i);
+        uint8_t graph[MOST_GRAPH_BYTES + MOST_ADDED];
+        generate_graph(&r, &small, d);
+        size_t length = draft_write(d, graph);
+        size_t sheet_len = sheet_bytes(draft_shape(d));
+        if (i % 2 != 0)
+            length = generate_damage(&r, d, graph, length);
+        random_fill(&r, sheet, sheet_len);
+        test_lines_of(&r, graph, length, sheet, sheet_len, &seen);
+    }
+    tally_print("pairs with other lines", &seen);
+}
+
 /* ---- The sheet against runs ---- */
 
 /* What runs bring is never less than the sheet says; answers whether it is
@@ -1056,10 +1151,10 @@ static bool agrees_with_runs(const struct draft *d, const uint8_t *sheet,
         if (b->overdrawn && overdrawn == d->nodes)
             overdrawn = n;
     }
-    return exact && answer == (overdrawn < d->nodes
-                                   ? packed_type(13, d->node[overdrawn].number,
-                                                 overdrawn)
-                                   : 0);
+    uint64_t due = 0;
+    if (overdrawn < d->nodes)
+        due = at_node(d, packed_type(13, d->node[overdrawn].number, overdrawn));
+    return exact && answer == due;
 }
 
 /* With fewer open calls, longer runs come within the limit of states. */
@@ -1110,6 +1205,7 @@ int main(int argc, char **argv)
     test_small_graphs(cases, &d, sheet);
     test_limit_graphs(cases / 50, &d, sheet);
     test_damaged_files(2 * cases, &d, sheet);
+    test_lines(cases, &d, sheet);
     test_runs(2 * cases, &d, sheet);
     printf("all passed\n");
     return 0;

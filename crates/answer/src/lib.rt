@@ -1,7 +1,7 @@
-// What comes back: one case for each number, with its place and, where it names one, its type.
+// What comes back: one case for each number, with its place, where it names one its type, and where its place is a node that node's line.
 ghost use mathlib.Core.Path.{_≡_};
 ghost use Prim.Native.Nat.{_<_};
-ghost use Rattle.answer.specs.Number.{numberOf, typeOf, placeOf, packedOf};
+ghost use Rattle.answer.specs.Number.{numberOf, typeOf, placeOf, lineOf, packedOf};
 
 pub enum Answer {
     Pass,
@@ -9,7 +9,7 @@ pub enum Answer {
     BadCount(u16),
     BadLength,
     BadEntry(u16),
-    BadNode(u16),
+    BadNode(u16, u16),
     BadFlow(u16),
     BadCall(u16),
     BadCatch(u16),
@@ -17,93 +17,73 @@ pub enum Answer {
     BadSheet,
     BadBlock(u16),
     Broken(u16, u16),
-    Overdrawn(u16, u16),
-    Unfit(u16),
+    Overdrawn(u16, u16, u16),
+    Unfit(u16, u16),
     BadParent(u16),
-    NoCallRow(u16),
+    NoCallRow(u16, u16),
     OutputShort,
+}
+
+// Number, type, place and line.
+struct Parts(u16, u16, u16, u16);
+
+fn said(a: Answer) -> Parts
+    ensures { λ r. ⌜ (r .0 ≡ numberOf a) × (r .1 ≡ typeOf a) × (r .2 ≡ placeOf a) × (r .3 ≡ lineOf a) ⌝ }
+{
+    match a {
+        Answer::Pass => Parts(0, 0, 0, 0),
+        Answer::TooShort => Parts(1, 0, 0, 0),
+        Answer::BadCount(i) => Parts(2, 0, i, 0),
+        Answer::BadLength => Parts(3, 0, 0, 0),
+        Answer::BadEntry(k) => Parts(4, 0, k, 0),
+        Answer::BadNode(k, l) => Parts(5, 0, k, l),
+        Answer::BadFlow(k) => Parts(6, 0, k, 0),
+        Answer::BadCall(k) => Parts(7, 0, k, 0),
+        Answer::BadCatch(k) => Parts(8, 0, k, 0),
+        Answer::BadOpening(k) => Parts(9, 0, k, 0),
+        Answer::BadSheet => Parts(10, 0, 0, 0),
+        Answer::BadBlock(w) => Parts(11, 0, w, 0),
+        Answer::Broken(r, k) => Parts(12, k, r, 0),
+        Answer::Overdrawn(n, k, l) => Parts(13, k, n, l),
+        Answer::Unfit(n, l) => Parts(14, 0, n, l),
+        Answer::BadParent(e) => Parts(15, 0, e, 0),
+        Answer::NoCallRow(n, l) => Parts(17, 0, n, l),
+        Answer::OutputShort => Parts(26, 0, 0, 0),
+    }
 }
 
 pub fn number(a: Answer) -> u16
     ensures { λ r. ⌜ r ≡ numberOf a ⌝ }
 {
-    match a {
-        Answer::Pass => 0,
-        Answer::TooShort => 1,
-        Answer::BadCount(_) => 2,
-        Answer::BadLength => 3,
-        Answer::BadEntry(_) => 4,
-        Answer::BadNode(_) => 5,
-        Answer::BadFlow(_) => 6,
-        Answer::BadCall(_) => 7,
-        Answer::BadCatch(_) => 8,
-        Answer::BadOpening(_) => 9,
-        Answer::BadSheet => 10,
-        Answer::BadBlock(_) => 11,
-        Answer::Broken(_, _) => 12,
-        Answer::Overdrawn(_, _) => 13,
-        Answer::Unfit(_) => 14,
-        Answer::BadParent(_) => 15,
-        Answer::NoCallRow(_) => 17,
-        Answer::OutputShort => 26,
-    }
+    said(a).0
 }
 
 // The resource type that the answer names, 0 where it names none.
 pub fn type_of(a: Answer) -> u16
     ensures { λ r. ⌜ r ≡ typeOf a ⌝ }
 {
-    match a {
-        Answer::Pass => 0,
-        Answer::TooShort => 0,
-        Answer::BadCount(_) => 0,
-        Answer::BadLength => 0,
-        Answer::BadEntry(_) => 0,
-        Answer::BadNode(_) => 0,
-        Answer::BadFlow(_) => 0,
-        Answer::BadCall(_) => 0,
-        Answer::BadCatch(_) => 0,
-        Answer::BadOpening(_) => 0,
-        Answer::BadSheet => 0,
-        Answer::BadBlock(_) => 0,
-        Answer::Broken(_, k) => k,
-        Answer::Overdrawn(_, k) => k,
-        Answer::Unfit(_) => 0,
-        Answer::BadParent(_) => 0,
-        Answer::NoCallRow(_) => 0,
-        Answer::OutputShort => 0,
-    }
+    said(a).1
 }
 
-// The two answers of two fields stand first: further down their proof is not found without a file.
 pub fn place(a: Answer) -> u32
     ensures { λ r. ⌜ (r ≡ placeOf a) × (r < 65536) ⌝ }
 {
-    match a {
-        Answer::Broken(r, _) => r as u32,
-        Answer::Overdrawn(n, _) => n as u32,
-        Answer::Pass => 0,
-        Answer::TooShort => 0,
-        Answer::BadCount(i) => i as u32,
-        Answer::BadLength => 0,
-        Answer::BadEntry(k) => k as u32,
-        Answer::BadNode(k) => k as u32,
-        Answer::BadFlow(k) => k as u32,
-        Answer::BadCall(k) => k as u32,
-        Answer::BadCatch(k) => k as u32,
-        Answer::BadOpening(k) => k as u32,
-        Answer::BadSheet => 0,
-        Answer::BadBlock(w) => w as u32,
-        Answer::Unfit(n) => n as u32,
-        Answer::BadParent(e) => e as u32,
-        Answer::NoCallRow(n) => n as u32,
-        Answer::OutputShort => 0,
-    }
+    said(a).2 as u32
 }
 
-// The answer in one number, as the C face gives it. Its line is 0, so three fields are enough.
+// The source line of the node that is the place, 0 where it has none or the place is no node.
+pub fn line(a: Answer) -> u16
+    ensures { λ r. ⌜ r ≡ lineOf a ⌝ }
+{
+    said(a).3
+}
+
+// The answer in one number, as the C face gives it.
 pub fn packed(a: Answer) -> u64
     ensures { λ r. ⌜ r ≡ packedOf a ⌝ }
 {
-    number(a) as u64 + 256 * (type_of(a) as u64) + 65536 * (place(a) as u64)
+    number(a) as u64
+        + 256 * (type_of(a) as u64)
+        + 65536 * (place(a) as u64)
+        + 1099511627776 * (line(a) as u64)
 }

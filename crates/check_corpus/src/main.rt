@@ -1,5 +1,5 @@
 // Checks the sheet and the graph file in each of the files that its arguments name, and prints the name, and the answer's
-// number, type and place. A file is two bytes, the graph file's length, lowest byte first, then the graph file, and then
+// number, type, place and line. A file is two bytes, the graph file's length, lowest byte first, then the graph file, and then
 // the sheet, which is all that is left.
 use libc::STDOUT_FILENO;
 
@@ -11,6 +11,8 @@ fn print_answer(name: &[u8], a: answer::Answer) {
     io::print_decimal(STDOUT_FILENO, answer::type_of(a) as u64);
     io::write_all(STDOUT_FILENO, b" ");
     io::print_decimal(STDOUT_FILENO, answer::place(a) as u64);
+    io::write_all(STDOUT_FILENO, b" ");
+    io::print_decimal(STDOUT_FILENO, answer::line(a) as u64);
     io::write_all(STDOUT_FILENO, b"\n");
 }
 
@@ -25,7 +27,7 @@ fn check_both(name: &[u8], both: &[u8]) {
 
 // The buffer holds the longest graph file with the longest sheet, and two bytes.
 fn check_open(name: &[u8], fd: i32) {
-    let mut buffer = [0u8; 68608];
+    let mut buffer = [0u8; 69632];
     let n = io::read_full(fd, &mut buffer);
     check_both(name, &buffer[..n]);
 }

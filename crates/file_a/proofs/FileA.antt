@@ -36,7 +36,7 @@ use Rattle.sweep.specs.Sweep.{sheetOf, wroteOf, lowers, sweepOf}
 use Rattle.work.specs.Swept.{unswept, again}
 use Rattle.work.specs.Meaning.{WorksOut}
 use Rattle.work.proofs.Sweeping.{answers}
-use Rattle.text.specs.Listing.{firstLine, countText, lineOf, nodeLines, listingOf}
+use Rattle.text.specs.Listing.{firstLine, countText, stockLine, nodeLines, listingOf}
 use Rattle.listed.specs.Lists.{textOf, Prints, whole}
 use Rattle.listed.proofs.Only.{one-text}
 use Rattle.known.specs.File.{words, nodeRows, pairs, triples, distance, fileBytes}
@@ -56,7 +56,7 @@ two = sheetOf (sweepOf fileA (tablesOf fileA) (shapeOf (tablesOf fileA)) true on
 -- All that is computed: the file passes, the sheet's length, the third sweep is content, the verdict, and the text.
 record Computed : Type 0 where
   passed : judgeOf fileA ≡ Pass
-  small : length fileA ≡ 76
+  small : length fileA ≡ 86
   long : length blank ≡ sheetBytes (shapeOf (tablesOf fileA))
   room : length blank ≡ sheetBytes (judgedOf fileA .shape)
   content : wroteOf (sweepOf fileA (tablesOf fileA) (shapeOf (tablesOf fileA)) false two) ≡ false
@@ -73,7 +73,7 @@ unfolding byteAt wordAt lowest joined placeText decimal
     stockAt effectAt bytesOf stockWord effectWord wholeOf roundsOf
     marked goesIn steppedIn calledIn effectUnder stockUnder uncoveredAt effectTo stockTo inTurn
     rowsWalk leavingWalk startWalk entryWalk flowWalk endWalk nodeWalk afterWalk intoWalk thrownWalk calledWalk tableWalk tablesWalk sheetWalk lowers sweepOf
-    firstLine countText lineOf nodeLines listingOf shapeFor
+    firstLine countText stockLine nodeLines listingOf shapeFor
     words nodeRows pairs triples distance fileBytes aWith blank one two
 computed = record { passed = refl; small = refl; long = refl; room = refl; content = refl; verdict = refl; text = refl }
 

@@ -5,7 +5,7 @@ use Rattle.digits.specs.Text.{ascii}
 use Rattle.known.specs.File.{fileBytes}
 use Rattle.known.specs.Table.{aWith}
 
--- File A, whose 76 bytes are `a-bytes` of crate `known`
+-- File A, whose 86 bytes are `a-bytes` of crate `known`
 abbrev pub fileA : List ℕ
 fileA = fileBytes (aWith 2 2)
 

@@ -6,3 +6,6 @@ pub mod Rises
 pub mod Caught
 pub mod Families
 pub mod Stages
+pub mod Alike
+pub mod Agree
+pub mod Lines

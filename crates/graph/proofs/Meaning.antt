@@ -1,6 +1,6 @@
 -- The judge's answer is the first that applies, and there is no second answer of which that can be said.
 use Prim.Native.Nat.{ℕ, suc, _<_}
-use mathlib.Core.Path.{_≡_, refl, sym, subst, _∙_}
+use mathlib.Core.Path.{_≡_, refl, sym, subst, ap, _∙_}
 use mathlib.Core.Bool.{Bool, true, false, cond, true≢false}
 use mathlib.Core.Logic.{inl, inr}
 use mathlib.Core.List.{List}
@@ -22,24 +22,24 @@ use Rattle.graph.specs.Places.{badNodeAt, noCallRowAt}
 use Rattle.graph.specs.Judge.{refused, judgeRows, judgeIn, judgeOf}
 use Rattle.graph.specs.Meaning.{Given, turnOf, Before, Judges, refuses, passes}
 
--- the refusal of the file that has the turn and the place
-abbrev inTurn : ℕ → ℕ → Answer
-inTurn c p =
-    cond (eqb c 1) TooShort
-    (cond (eqb c 2) (BadCount p)
-    (cond (eqb c 3) BadLength
-    (cond (eqb c 4) (BadEntry p)
-    (cond (eqb c 5) (BadNode p)
-    (cond (eqb c 6) (BadFlow p)
-    (cond (eqb c 7) (BadCall p)
-    (cond (eqb c 8) (BadParent p)
-    (cond (eqb c 9) (BadCatch p)
-    (cond (eqb c 10) (NoCallRow p)
-    (BadOpening p))))))))))
-
 module _ (f : List ℕ) where
   abbrev t : Tables
   t = tablesOf f
+
+  -- the refusal of the file that has the turn and the place
+  abbrev inTurn : ℕ → ℕ → Answer
+  inTurn c p =
+      cond (eqb c 1) TooShort
+      (cond (eqb c 2) (BadCount p)
+      (cond (eqb c 3) BadLength
+      (cond (eqb c 4) (BadEntry p)
+      (cond (eqb c 5) (badNodeAt f t p)
+      (cond (eqb c 6) (BadFlow p)
+      (cond (eqb c 7) (BadCall p)
+      (cond (eqb c 8) (BadParent p)
+      (cond (eqb c 9) (BadCatch p)
+      (cond (eqb c 10) (noCallRowAt f t p)
+      (BadOpening p))))))))))
 
   -- what is refused about the file has its turn among eleven
   about-file : (b : Answer) → Given f t b → (0 < turnOf b) × (turnOf b < 12)
@@ -48,18 +48,18 @@ module _ (f : List ℕ) where
   about-file (BadCount i) g = (omega arith, omega arith)
   about-file BadLength g = (omega arith, omega arith)
   about-file (BadEntry k) g = (omega arith, omega arith)
-  about-file (BadNode k) g = (omega arith, omega arith)
+  about-file (BadNode k l) g = (omega arith, omega arith)
   about-file (BadFlow k) g = (omega arith, omega arith)
   about-file (BadCall k) g = (omega arith, omega arith)
   about-file (BadParent e) g = (omega arith, omega arith)
   about-file (BadCatch k) g = (omega arith, omega arith)
   about-file (BadOpening k) g = (omega arith, omega arith)
-  about-file (NoCallRow n) g = (omega arith, omega arith)
+  about-file (NoCallRow n l) g = (omega arith, omega arith)
   about-file BadSheet g = absurd g
   about-file (BadBlock w) g = absurd g
   about-file (Broken r k) g = absurd g
-  about-file (Overdrawn n k) g = absurd g
-  about-file (Unfit n) g = absurd g
+  about-file (Overdrawn n k l) g = absurd g
+  about-file (Unfit n l) g = absurd g
   about-file OutputShort g = absurd g
 
   -- and turn and place settle it
@@ -69,18 +69,18 @@ module _ (f : List ℕ) where
   found (BadCount i) g = refl
   found BadLength g = refl
   found (BadEntry k) g = refl
-  found (BadNode k) g = refl
+  found (BadNode k l) g = ap (BadNode k) (sym (g .2))
   found (BadFlow k) g = refl
   found (BadCall k) g = refl
   found (BadParent e) g = refl
   found (BadCatch k) g = refl
   found (BadOpening k) g = refl
-  found (NoCallRow n) g = refl
+  found (NoCallRow n l) g = ap (NoCallRow n) (sym (g .2))
   found BadSheet g = absurd g
   found (BadBlock w) g = absurd g
   found (Broken r k) g = absurd g
-  found (Overdrawn n k) g = absurd g
-  found (Unfit n) g = absurd g
+  found (Overdrawn n k l) g = absurd g
+  found (Unfit n l) g = absurd g
   found OutputShort g = absurd g
 
   settled : (a b : Answer) → Given f t a → Given f t b → turnOf a ≡ turnOf b → placeOf a ≡ placeOf b → a ≡ b
@@ -142,12 +142,12 @@ module _ (f : List ℕ) where
       (λ n1. rows-judge 2 BadCount (λ k. refl) n1 _ _ _ (λ k. (refl, refl)) (λ k l h. (l, h)) (λ k g. g)
       (λ n2. file-judge 3 (λ k. BadLength) (λ k. refl) n2 _ _ (refl, refl) (λ h. h) (λ k g. g)
       (λ n3. rows-judge 4 BadEntry (λ k. refl) n3 _ _ _ (λ k. (refl, refl)) (λ k l h. (l, h)) (λ k g. g)
-      (λ n4. rows-judge 5 (badNodeAt f t) (λ k. refl) n4 _ _ _ (λ k. (refl, refl)) (λ k l h. (l, h)) (λ k g. g)
+      (λ n4. rows-judge 5 (badNodeAt f t) (λ k. refl) n4 _ _ _ (λ k. (refl, refl)) (λ k l h. (l, h, refl)) (λ k g. (g .0, g .1))
       (λ n5. rows-judge 6 BadFlow (λ k. refl) n5 _ _ _ (λ k. (refl, refl)) (λ k l h. (l, h)) (λ k g. g)
       (λ n6. rows-judge 7 BadCall (λ k. refl) n6 _ _ _ (λ k. (refl, refl)) (λ k l h. (l, h)) (λ k g. g)
       (λ n7. rows-judge 8 BadParent (λ k. refl) n7 _ _ _ (λ k. (refl, refl)) (λ k l h. (l, h)) (λ k g. g)
       (λ n8. rows-judge 9 BadCatch (λ k. refl) n8 _ _ _ (λ k. (refl, refl)) (λ k l h. (l, h)) (λ k g. g)
-      (λ n9. rows-judge 10 (noCallRowAt f t) (λ k. refl) n9 _ _ _ (λ k. (refl, refl)) (λ k l h. (l, h)) (λ k g. g)
+      (λ n9. rows-judge 10 (noCallRowAt f t) (λ k. refl) n9 _ _ _ (λ k. (refl, refl)) (λ k l h. (l, h, refl)) (λ k g. (g .0, g .1))
       (λ n10. rows-judge 11 BadOpening (λ k. refl) n10 _ _ _ (λ k. (refl, refl)) (λ k l h. (l, h)) (λ k g. g)
       (λ n11. passes (λ b g. n11 b (about-file b g .1) g) (says Pass))))))))))))
 

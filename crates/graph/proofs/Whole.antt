@@ -92,8 +92,8 @@ formed f h =
       eight-exceptions = λ n e w. rw (← w .1) (omega (arith, node-fit f t n (j .nodes n (w .0 .0)) .exception (w .0 .1)));
     }
 
--- "The longest file has 12,440 + 14 = 12,454 bytes", and with the parents 8 more.
-longest : (f : List ℕ) → Limits (tablesOf f) → lengthBad f (tablesOf f) ≡ false → length f ≤ 12462
+-- "The longest file has 12,440 + 14 = 12,454 bytes", with the parents 8 more, and with the lines 1,024 more.
+longest : (f : List ℕ) → Limits (tablesOf f) → lengthBad f (tablesOf f) ≡ false → length f ≤ 13486
 longest f l h =
     let e = length-fit f (tablesOf f) h in
     omega (arith, end-is f, l .methods, l .nodes, l .flows, l .calls, l .catches, l .types)
@@ -105,7 +105,7 @@ first-two false true i next h = inr refl
 first-two false false i next h = absurd (h refl refl)
 
 -- a longer one is answered 2 or 3
-pub too-long : (f : List ℕ) → 12462 < length f → (numberOf (judgeOf f) ≡ 2) ⊎ (numberOf (judgeOf f) ≡ 3)
+pub too-long : (f : List ℕ) → 13486 < length f → (numberOf (judgeOf f) ≡ 2) ⊎ (numberOf (judgeOf f) ≡ 3)
 unfolding judgeIn
 too-long f l =
     rw (le-ltb (length f) 14 (omega arith))

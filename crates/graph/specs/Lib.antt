@@ -4,3 +4,4 @@ pub mod Scan
 pub mod Judgement
 pub mod Meaning
 pub mod Graph
+pub mod Lines

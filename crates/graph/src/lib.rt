@@ -23,29 +23,29 @@ pub struct Judgement {
     pub shape: Shape,
 }
 
-// The answers that name a node are made here.
+// The answers that name a node are made here, with its line.
 fn bad_node_at(f: &[u8], t: Tables, k: u16) -> Answer
     ensures { λ r. ⌜ r ≡ badNodeAt (now (f .entry)) t k ⌝ }
 {
-    Answer::BadNode(k)
+    Answer::BadNode(k, tables::node_line(f, t, k))
 }
 
 fn no_call_row_at(f: &[u8], t: Tables, n: u16) -> Answer
     ensures { λ r. ⌜ r ≡ noCallRowAt (now (f .entry)) t n ⌝ }
 {
-    Answer::NoCallRow(n)
+    Answer::NoCallRow(n, tables::node_line(f, t, n))
 }
 
 pub fn overdrawn_at(f: &[u8], t: Tables, n: u16) -> Answer
     ensures { λ r. ⌜ r ≡ overdrawnAt (now (f .entry)) t n ⌝ }
 {
-    Answer::Overdrawn(n, tables::node_number(f, t, n))
+    Answer::Overdrawn(n, tables::node_number(f, t, n), tables::node_line(f, t, n))
 }
 
 pub fn unfit_at(f: &[u8], t: Tables, n: u16) -> Answer
     ensures { λ r. ⌜ r ≡ unfitAt (now (f .entry)) t n ⌝ }
 {
-    Answer::Unfit(n)
+    Answer::Unfit(n, tables::node_line(f, t, n))
 }
 
 fn row_bad(f: &[u8], t: Tables, table: Table, k: u16) -> bool

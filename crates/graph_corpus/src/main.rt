@@ -1,4 +1,4 @@
-// Judges each of the files that its arguments name, and prints the name, and the answer's number, type and place.
+// Judges each of the files that its arguments name, and prints the name, and the answer's number, type, place and line.
 use libc::STDOUT_FILENO;
 
 fn print_answer(name: &[u8], a: answer::Answer) {
@@ -9,6 +9,8 @@ fn print_answer(name: &[u8], a: answer::Answer) {
     io::print_decimal(STDOUT_FILENO, answer::type_of(a) as u64);
     io::write_all(STDOUT_FILENO, b" ");
     io::print_decimal(STDOUT_FILENO, answer::place(a) as u64);
+    io::write_all(STDOUT_FILENO, b" ");
+    io::print_decimal(STDOUT_FILENO, answer::line(a) as u64);
     io::write_all(STDOUT_FILENO, b"\n");
 }
 

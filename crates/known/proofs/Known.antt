@@ -15,7 +15,7 @@ use Rattle.effect.proofs.Compute.{less, left, countAfter, rightsAfter, normDrop
 use Rattle.model.specs.Stocks.{done, stepOf}
 use Rattle.model.specs.Rounds.{lowest-rounds, whole-rounds, earlier-rounds}
 use Rattle.tables.specs.Trailer.{trailerAt, trailer, tablesOf}
-use Rattle.tables.specs.Fields.{entryOf, nodeMethod, nodeKind, nodeNumber, nodeCount, nodeRights, flowFrom, flowTo, callNode, callMethod, parentOf, catchFrom, catchException, catchTo, openingRights, openingCount}
+use Rattle.tables.specs.Fields.{entryOf, nodeMethod, nodeKind, nodeNumber, nodeCount, nodeRights, nodeLine, flowFrom, flowTo, callNode, callMethod, parentOf, catchFrom, catchException, catchTo, openingRights, openingCount}
 use Rattle.tables.specs.Family.{climb, nearest}
 use Rattle.refuse.specs.Bad.{above, notAbove, flowRow, catchRow, countBad, lengthBad, entryBad, outOfRange, unusedSet, nodeBad, flowBad, callBad, parentBad, kin, throwsOther, catchBad, uncalled, openingBad}
 use Rattle.graph.specs.Judge.{judgeRows, judgeIn}
@@ -35,19 +35,19 @@ use Rattle.known.specs.Known.{AllKnown}
 use Rattle.known.proofs.Follows.{flow, call, repeat, overdraws, follows}
 use Rattle.known.proofs.Truth.{Certificate, hasThese, wordsOf, test, tests, all-true}
 
--- File A is the 68 bytes that the document gives, with eight kinds that have no parent, and so a longer distance.
+-- File A is the 68 bytes that the document gives, with nodes that name no line, eight kinds that have no parent, and so a longer distance.
 pub a-bytes : fileBytes (aWith 2 2)
     ≡ 0x00 ∷ 0x00 ∷ 0x03 ∷ 0x00
-    ∷ 0x00 ∷ 0x01 ∷ 0x00 ∷ 0x02 ∷ 0x01 ∷ 0x01
-    ∷ 0x00 ∷ 0x03 ∷ 0x00 ∷ 0x02 ∷ 0x00 ∷ 0x00
-    ∷ 0x00 ∷ 0x04 ∷ 0x00 ∷ 0x00 ∷ 0x00 ∷ 0x00
-    ∷ 0x01 ∷ 0x02 ∷ 0x00 ∷ 0x00 ∷ 0x01 ∷ 0x01
-    ∷ 0x01 ∷ 0x04 ∷ 0x00 ∷ 0x00 ∷ 0x00 ∷ 0x00
+    ∷ 0x00 ∷ 0x01 ∷ 0x00 ∷ 0x02 ∷ 0x01 ∷ 0x01 ∷ 0x00 ∷ 0x00
+    ∷ 0x00 ∷ 0x03 ∷ 0x00 ∷ 0x02 ∷ 0x00 ∷ 0x00 ∷ 0x00 ∷ 0x00
+    ∷ 0x00 ∷ 0x04 ∷ 0x00 ∷ 0x00 ∷ 0x00 ∷ 0x00 ∷ 0x00 ∷ 0x00
+    ∷ 0x01 ∷ 0x02 ∷ 0x00 ∷ 0x00 ∷ 0x01 ∷ 0x01 ∷ 0x00 ∷ 0x00
+    ∷ 0x01 ∷ 0x04 ∷ 0x00 ∷ 0x00 ∷ 0x00 ∷ 0x00 ∷ 0x00 ∷ 0x00
     ∷ 0x00 ∷ 0x00 ∷ 0x01 ∷ 0x00 ∷ 0x01 ∷ 0x00 ∷ 0x02 ∷ 0x00 ∷ 0x03 ∷ 0x00 ∷ 0x04 ∷ 0x00
     ∷ 0x01 ∷ 0x00 ∷ 0x01 ∷ 0x00
     ∷ 0xff ∷ 0xff ∷ 0xff ∷ 0xff ∷ 0xff ∷ 0xff ∷ 0xff ∷ 0xff
     ∷ 0x00 ∷ 0x00 ∷ 0x00 ∷ 0x00
-    ∷ 0x02 ∷ 0x00 ∷ 0x05 ∷ 0x00 ∷ 0x03 ∷ 0x00 ∷ 0x01 ∷ 0x00 ∷ 0x00 ∷ 0x00 ∷ 0x01 ∷ 0x00 ∷ 0x3e ∷ 0x00
+    ∷ 0x02 ∷ 0x00 ∷ 0x05 ∷ 0x00 ∷ 0x03 ∷ 0x00 ∷ 0x01 ∷ 0x00 ∷ 0x00 ∷ 0x00 ∷ 0x01 ∷ 0x00 ∷ 0x48 ∷ 0x00
     ∷ []
 unfolding words nodeRows pairs triples distance fileBytes aWith
 a-bytes = refl
@@ -103,7 +103,7 @@ tested : tests (find certificates) table && tests (find certificates) beside ≡
 unfolding byteAt wordAt lowest inTurn
     less left countAfter rightsAfter normDrop thenCap sumDrop rank largerDrop countAtMost within normalForm normalOne idle drawn granted applyOne thenOne bothOne atMostOne heldAtMost coversHeld
     normalOf nothingDone drawOf grantOf applyOf thenOf bothOf atMostOf stockAtMostOf failsOf stockFailsOf coversOf with-at replaced oneTaken done stepOf lowest-rounds whole-rounds earlier-rounds
-    trailerAt trailer tablesOf entryOf nodeMethod nodeKind nodeNumber nodeCount nodeRights flowFrom flowTo callNode callMethod parentOf catchFrom catchException catchTo openingRights openingCount
+    trailerAt trailer tablesOf entryOf nodeMethod nodeKind nodeNumber nodeCount nodeRights nodeLine flowFrom flowTo callNode callMethod parentOf catchFrom catchException catchTo openingRights openingCount
     climb nearest above notAbove flowRow catchRow countBad lengthBad entryBad outOfRange unusedSet nodeBad flowBad callBad parentBad kin throwsOther catchBad uncalled openingBad judgeRows judgeIn
     firstRow stretchOf hasOwn doesIn openingIn methodAt exitAt nodeAt sheetWords sheetBytes blockSize blockAt
     stockAt effectAt someWord countsFit illBlock wholeOf roundsOf

@@ -24,7 +24,7 @@ use Rattle.effect.proofs.Coordinate.{at-most-at-sound, at-most-at-complete}
 use Rattle.model.proofs.Sound.{sound}
 use Rattle.model.proofs.Exact.{never-overdraws-at}
 use Rattle.tables.specs.Trailer.{tablesOf}
-use Rattle.tables.specs.Fields.{entryOf, nodeNumber}
+use Rattle.tables.specs.Fields.{entryOf, nodeNumber, nodeLine}
 use Rattle.graph.specs.Judgement.{shapeOf}
 use Rattle.graph.specs.Places.{overdrawnAt}
 use Rattle.graph.proofs.Passed.{judge-few}
@@ -62,10 +62,11 @@ wordsOf e = allSix (λ k. ltb (getD (e .keepmax) k 0) 65536)
 -- The test of a row.
 unfoldable pub test : Claim → Certificate → Bool
 test (table.passes g) c = eqb (numberOf (checkOf (fileBytes g) (c .0))) 0
-test (table.overdrawn g n k) c =
+test (table.overdrawn g n k l) c =
     eqb (numberOf (checkOf (fileBytes g) (c .0))) 13
     && eqb (placeOf (checkOf (fileBytes g) (c .0))) n
     && eqb (nodeNumber (fileBytes g) (tablesOf (fileBytes g)) n) k
+    && eqb (nodeLine (fileBytes g) (tablesOf (fileBytes g)) n) l
     && follows (fileBytes g) n (c .1) (entryOf (fileBytes g) 0) [] (openingIn (fileBytes g) (tablesOf (fileBytes g)))
 test (table.unreached g n) c =
     eqb (numberOf (checkOf (fileBytes g) (c .0))) 0 && not (marked (c .0) (nodeAt (shapeOf (tablesOf (fileBytes g))) n))
@@ -87,16 +88,16 @@ module _ (f u : List ℕ) where
   was-overdrawn (accepted w h k v) e = absurd (omega (arith, v .number-is))
 
   -- With the sheet that work out wrote, its one answer is the one that the runs give: no run overdraws,
-  if-passes : checkOf f u ≡ Pass → Answers f 0 0 0
+  if-passes : checkOf f u ≡ Pass → Answers f 0 0 0 0
   if-passes e s r a l w =
       let q = only f s r r w (work.passes l (wrote f s r w (accepts f u .0 e .0 .0) l .0) (safe f u (ap numberOf e)) (says Pass)) .0 in
-      subst (λ b. Says b 0 0 0) (sym q) (says Pass)
+      subst (λ b. Says b 0 0 0 0) (sym q) (says Pass)
 
   -- or one overdraws at n, and none at a lower node.
-  if-overdrawn : (n : ℕ) → numberOf (checkOf f u) ≡ 13 → placeOf (checkOf f u) ≡ n → Overdrawing f n → Answers f 13 (nodeNumber f (tablesOf f) n) n
+  if-overdrawn : (n : ℕ) → numberOf (checkOf f u) ≡ 13 → placeOf (checkOf f u) ≡ n → Overdrawing f n → Answers f 13 (nodeNumber f (tablesOf f) n) n (nodeLine f (tablesOf f) n)
   if-overdrawn n e p o s r a l w =
       let q = only f s r r w (work.overdrawn l (wrote f s r w (c .0 .0) l .0) n o below (says (overdrawnAt f (tablesOf f) n))) .0 in
-      subst (λ b. Says b 13 (nodeNumber f (tablesOf f) n) n) (sym q) (says (overdrawnAt f (tablesOf f) n))
+      subst (λ b. Says b 13 (nodeNumber f (tablesOf f) n) n (nodeLine f (tablesOf f) n)) (sym q) (says (overdrawnAt f (tablesOf f) n))
     where
       c : CoversBelow n
       c = subst CoversBelow p (was-overdrawn (checks f u) e)
@@ -128,16 +129,20 @@ words-known e h k l = ltb-true _ 65536 (all-e (λ k. ltb (getD (e .keepmax) k 0)
 pub truth : (r : Claim) (c : Certificate) → test r c ≡ true → Known r
 unfolding test
 truth (table.passes g) c h = if-passes (fileBytes g) (c .0) (zero-pass _ (eqb-true _ 0 h))
-truth (table.overdrawn g n k) c h =
+truth (table.overdrawn g n k l) c h =
     let a = checkOf (fileBytes g) (c .0) in
     let p = eqb (numberOf a) 13 in
     let q = eqb (placeOf a) n in
     let m = eqb (nodeNumber (fileBytes g) (tablesOf (fileBytes g)) n) k in
-    let t = and-l (p && q && m) _ h in
+    let w = eqb (nodeLine (fileBytes g) (tablesOf (fileBytes g)) n) l in
+    let u = and-l (p && q && m && w) _ h in
+    let t = and-l (p && q && m) _ u in
     let e = and-l (p && q) _ t in
-    subst (λ j. Answers (fileBytes g) 13 j n) (eqb-true _ k (and-r (p && q) _ t))
+    let type : nodeNumber (fileBytes g) (tablesOf (fileBytes g)) n ≡ k = eqb-true _ k (and-r (p && q) _ t) in
+    let line : nodeLine (fileBytes g) (tablesOf (fileBytes g)) n ≡ l = eqb-true _ l (and-r (p && q && m) _ u) in
+    subst (λ X. X) (λ i. Answers (fileBytes g) 13 (type i) n (line i))
     (if-overdrawn (fileBytes g) (c .0) n (eqb-true _ 13 (and-l p _ e)) (eqb-true _ n (and-r p _ e))
-    (overdrawn-by (fileBytes g) n (c .1) (and-r (p && q && m) _ h)))
+    (overdrawn-by (fileBytes g) n (c .1) (and-r (p && q && m && w) _ h)))
 truth (table.unreached g n) c h =
     let p = eqb (numberOf (checkOf (fileBytes g) (c .0))) 0 in
     if-unmarked (fileBytes g) (c .0) (zero-pass _ (eqb-true _ 0 (and-l p _ h))) n (not-true _ (and-r p _ h))

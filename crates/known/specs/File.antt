@@ -4,9 +4,9 @@ use mathlib.Core.List.{List, [], _∷_, _++_}
 use lib.ListN.{length, replicate}
 use Rattle.words.specs.Write.{wordBytes}
 
--- "6 bytes: method, kind, number, count (one byte each), rights"
+-- "8 bytes": method, kind, number, count (one byte each), rights, "the last two the source line"
 pub data Node : Type 0 where
-  node : (method kind number count rights : ℕ) → Node
+  node : (method kind number count rights line : ℕ) → Node
 
 -- the rows of the tables
 pub record File : Type 0 where
@@ -35,7 +35,7 @@ words (v ∷ r) = wordBytes v ++ words r
 
 unfoldable pub nodeRows : List Node → List ℕ
 nodeRows [] = []
-nodeRows (node m k i c p ∷ r) = m ∷ k ∷ i ∷ c ∷ words (p ∷ []) ++ nodeRows r
+nodeRows (node m k i c p l ∷ r) = m ∷ k ∷ i ∷ c ∷ words (p ∷ l ∷ []) ++ nodeRows r
 
 -- the fields of rows of two and of three, row by row
 unfoldable pub pairs : List (ℕ × ℕ) → List ℕ
@@ -47,9 +47,10 @@ triples [] = []
 triples (r ∷ s) = r .0 ∷ r .1 ∷ r .2 ∷ triples s
 
 -- "the distance back from the trailer's start to byte 0, which is 2M + 6N + 4F + 4C + 6X + 4T", and 8 more for the parents
+-- and 2N for the lines
 unfoldable pub distance : File → ℕ
 distance g =
-    2 * length (g .methods) + 6 * length (g .nodes) + 4 * length (g .flow) + 4 * length (g .calls) + 8 + 6 * length (g .catches) + 4 * length (g .opening)
+    2 * length (g .methods) + 8 * length (g .nodes) + 4 * length (g .flow) + 4 * length (g .calls) + 8 + 6 * length (g .catches) + 4 * length (g .opening)
 
 -- The tables "stand one after the other from byte 0, then a trailer": M, N, F, C, X, T and the distance
 unfoldable pub fileBytes : File → List ℕ

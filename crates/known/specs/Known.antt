@@ -14,13 +14,13 @@ use Rattle.work.specs.Meaning.{WorksOut}
 use Rattle.known.specs.File.{fileBytes}
 use Rattle.known.specs.Table.{Claim, passes, overdrawn, unreached, has, at-most, not-at-most}
 
--- Of the file f and any sheet of the right length, work out answers with this number, this type and this place, and with no other.
-abbrev pub Answers : List ℕ → ℕ → ℕ → ℕ → Type 0
-Answers f number type place = (s r : List ℕ) (a : Answer) → length s ≡ sheetBytes (shape f) → WorksOut f s r a → Says a number type place
+-- Of the file f and any sheet of the right length, work out answers with this number, this type, this place and this line, and with no other.
+abbrev pub Answers : List ℕ → ℕ → ℕ → ℕ → ℕ → Type 0
+Answers f number type place line = (s r : List ℕ) (a : Answer) → length s ≡ sheetBytes (shape f) → WorksOut f s r a → Says a number type place line
 
 abbrev pub Known : Claim → Type 0
-Known (passes g) = Answers (fileBytes g) 0 0 0
-Known (overdrawn g n k) = Answers (fileBytes g) 13 k n
+Known (passes g) = Answers (fileBytes g) 0 0 0 0
+Known (overdrawn g n k l) = Answers (fileBytes g) 13 k n l
 Known (unreached g n) = (h : Stock) → Brings (fileBytes g) n h → ⊥
 Known (has e i m c d) = (getD (e .keepin) 0 0 ≡ i) × (getD (e .keepmax) 0 0 ≡ m) × (getD (e .cap) 0 0 ≡ c) × (getD (e .drop) 0 0 ≡ d)
 Known (at-most a b) = AtMost a b

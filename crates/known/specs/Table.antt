@@ -9,9 +9,9 @@ use Rattle.known.specs.File.{node, File, noParents}
 
 -- What a row says.
 pub data Claim : Type 0 where
-  -- the file passes; it is overdrawn, the node and the type
+  -- the file passes; it is overdrawn, the node, the type and the line
   passes : File → Claim
-  overdrawn : File → ℕ → ℕ → Claim
+  overdrawn : File → ℕ → ℕ → ℕ → Claim
   -- no run of the file arrives at the node
   unreached : File → ℕ → Claim
   -- of type 0 the effect has this keep-in, keep-max, cap and drop
@@ -20,17 +20,17 @@ pub data Claim : Type 0 where
   at-most : Effect → Effect → Claim
   not-at-most : Effect → Effect → Claim
 
--- K1 to K3: file A, with so much granted and so many repeats.
+-- K1 to K3: file A, with so much granted and so many repeats; it names no lines.
 unfoldable pub aWith : ℕ → ℕ → File
 aWith granted repeats =
     record {
       methods = 0 ∷ 3 ∷ [];
       nodes =
-          node 0 grantKind 0 granted 0x0101
-          ∷ node 0 callKind 0 repeats 0
-          ∷ node 0 returnKind 0 0 0
-          ∷ node 1 drawKind 0 0 0x0101
-          ∷ node 1 returnKind 0 0 0
+          node 0 grantKind 0 granted 0x0101 0
+          ∷ node 0 callKind 0 repeats 0 0
+          ∷ node 0 returnKind 0 0 0 0
+          ∷ node 1 drawKind 0 0 0x0101 0
+          ∷ node 1 returnKind 0 0 0 0
           ∷ [];
       flow = (0, 1) ∷ (1, 2) ∷ (3, 4) ∷ [];
       calls = (1, 1) ∷ [];
@@ -39,12 +39,12 @@ aWith granted repeats =
       opening = (0, 0) ∷ [];
     }
 
--- K9: a grant 0 and then a draw, on an endless opening stock that has the right.
+-- K9: a grant 0 and then a draw, in lines 11 and 12, on an endless opening stock that has the right.
 unfoldable pub revoked : File
 revoked =
     record {
       methods = 0 ∷ [];
-      nodes = node 0 grantKind 0 0 0x0101 ∷ node 0 drawKind 0 0 0x0101 ∷ [];
+      nodes = node 0 grantKind 0 0 0x0101 11 ∷ node 0 drawKind 0 0 0x0101 12 ∷ [];
       flow = (0, 1) ∷ [];
       calls = [];
       parents = noParents;
@@ -52,12 +52,12 @@ revoked =
       opening = (0x0101, 255) ∷ [];
     }
 
--- K10: a draw of 0301h, on an endless opening stock of rights 0101h.
+-- K10: a draw of 0301h, in the last line that there is, on an endless opening stock of rights 0101h.
 unfoldable pub withoutRight : File
 withoutRight =
     record {
       methods = 0 ∷ [];
-      nodes = node 0 drawKind 0 0 0x0301 ∷ [];
+      nodes = node 0 drawKind 0 0 0x0301 65535 ∷ [];
       flow = [];
       calls = [];
       parents = noParents;
@@ -70,7 +70,7 @@ unfoldable pub neverReturns : File
 neverReturns =
     record {
       methods = 0 ∷ 2 ∷ [];
-      nodes = node 0 callKind 0 1 0 ∷ node 0 drawKind 0 0 0x0101 ∷ node 1 plainKind 0 0 0 ∷ [];
+      nodes = node 0 callKind 0 1 0 0 ∷ node 0 drawKind 0 0 0x0101 0 ∷ node 1 plainKind 0 0 0 0 ∷ [];
       flow = (0, 1) ∷ (2, 2) ∷ [];
       calls = (0, 1) ∷ [];
       parents = noParents;
@@ -90,7 +90,7 @@ dropping d = every 0 0xffff 255 d
 unfoldable pub table : List (ℕ × Claim)
 table =
     (1, passes (aWith 2 2))
-    ∷ (2, overdrawn (aWith 2 3) 3 0)
+    ∷ (2, overdrawn (aWith 2 3) 3 0 0)
     ∷ (3, passes (aWith 255 255))
     ∷ (4, has (thenOf (dropping 200) (dropping 100)) 0 0xffff 255 255)
     ∷ (5, has (thenOf (dropping 253) (dropping 1)) 0 0xffff 255 255)
@@ -98,8 +98,8 @@ table =
     ∷ (7, at-most (every 0 0x0101 0 256) (every 0 0x0101 5 9))
     ∷ (7, not-at-most (every 0 0x0101 5 9) (every 0 0x0101 0 256))
     ∷ (8, has (thenOf (grantOf 0 0x0101 2) (dropping 2)) 0x0101 0x0101 0 256)
-    ∷ (9, overdrawn revoked 1 0)
-    ∷ (10, overdrawn withoutRight 0 0)
+    ∷ (9, overdrawn revoked 1 0 12)
+    ∷ (10, overdrawn withoutRight 0 0 65535)
     ∷ (11, unreached neverReturns 1)
     ∷ (11, passes neverReturns)
     ∷ []
@@ -109,7 +109,7 @@ unfoldable pub ownRowFirst : File
 ownRowFirst =
     record {
       methods = 0 ∷ [];
-      nodes = node 0 throwKind 1 0 0 ∷ node 0 returnKind 0 0 0 ∷ node 0 drawKind 0 0 0x0101 ∷ [];
+      nodes = node 0 throwKind 1 0 0 0 ∷ node 0 returnKind 0 0 0 0 ∷ node 0 drawKind 0 0 0x0101 0 ∷ [];
       flow = [];
       calls = [];
       parents = 255 ∷ 0 ∷ replicate 6 255;

@@ -31,7 +31,7 @@ pads-end text n s h =
           rw k at (getD-append-add text rest 0 0) ∙ getD-replicate (n - length text) 0 0 0 (omega arith);
     }
 
-pub ends : {f s r o q : List ℕ} {a : Answer} {n : ℕ} → Lists f s r o q a n → 46097 ≤ length o → Ends q n
+pub ends : {f s r o q : List ℕ} {a : Answer} {n : ℕ} → Lists f s r o q a n → 46103 ≤ length o → Ends q n
 ends (too-short h u v y z) few = absurd (omega arith)
 ends {f} {s} {r} {o} {q} {a} (told h w e z) few =
     let text : List ℕ = textOf f a r in

@@ -36,8 +36,8 @@ module _ (f : List ℕ) where
   pub one-line : (judgeOf f ≡ Pass → ⊥) → (a : Answer) (r : List ℕ) → textOf f a r ≡ firstLine a
   one-line n a r = bare a f (tablesOf f) (judgedOf f .shape) r (ap (λ x. x .nodes) (no-shape n))
 
-  -- No listing has more than 46,096 bytes.
-  pub longest : (s r : List ℕ) {a : Answer} → WorksOut f s r a → length (textOf f a r) ≤ 46096
+  -- No listing has more than 46,102 bytes.
+  pub longest : (s r : List ℕ) {a : Answer} → WorksOut f s r a → length (textOf f a r) ≤ 46102
   longest s r {a} (refused n e v) = rw (one-line n a r) (omega (arith, first-few a))
   longest s r {a} (wrong-length p n e v) = rw (is-short a f (tablesOf f) (judgedOf f .shape) r (ap verdict (v .number-is))) (omega (arith, first-few a))
   longest s r {a} (overdrawn l w n o below v) =

@@ -27,7 +27,7 @@ use Rattle.sheet.specs.Read.{marked}
 use Rattle.rules.specs.Sheet.{IsReached, stockIn}
 use Rattle.sheet.proofs.Marked.{mark-true, true-mark}
 use Rattle.listing.specs.Node.{isReached, nodeStock}
-use Rattle.text.specs.Listing.{firstLine, lineOf, nodeLines, isVerdict, listingOf}
+use Rattle.text.specs.Listing.{firstLine, stockLine, nodeLines, isVerdict, listingOf}
 use Rattle.text.proofs.Lengths.{is-listed, is-unlisted, is-full}
 use Rattle.text.proofs.Longest.{left-count}
 use Rattle.work.specs.Meaning.{Worked, WorksOut, refused, wrong-length, overdrawn, passes}

@@ -9,7 +9,7 @@ use Rattle.single.specs.declared.Held.{Held}
 use Rattle.effect.specs.declared.Stock.{Stock}
 use Rattle.effect.specs.Coordinate.{bit, right, count, at}
 use Rattle.tables.specs.Trailer.{tablesOf}
-use Rattle.text.specs.Listing.{firstLine, lineOf}
+use Rattle.text.specs.Listing.{firstLine, stockLine}
 use Rattle.nodes.specs.Program.{Brings}
 
 module _ (f : List ℕ) where
@@ -21,7 +21,7 @@ module _ (f : List ℕ) where
   -- the lines of node n
   pub data Lines (n : ℕ) : List ℕ → Type 0 where
     -- some run arrives: one line for each type
-    arrives : {h : Stock} → Brings f n h → (held : ℕ → Held) → ((k : ℕ) → k < tablesOf f .types → Least n k (held k)) → Lines n (joined (λ k. lineOf n k (held k)) (tablesOf f .types))
+    arrives : {h : Stock} → Brings f n h → (held : ℕ → Held) → ((k : ℕ) → k < tablesOf f .types → Least n k (held k)) → Lines n (joined (λ k. stockLine n k (held k)) (tablesOf f .types))
     -- no run arrives: no line
     never : ((h : Stock) → Brings f n h → ⊥) → Lines n []
 

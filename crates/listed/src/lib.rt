@@ -8,8 +8,8 @@ ghost use Rattle.graph.specs.Judgement.{judgedOf};
 ghost use Rattle.layout.specs.Layout.{Within};
 ghost use Rattle.listed.specs.Lists.{textOf, padded, Lists};
 
-// No listing has more than 46,096 bytes, and a 0 stands behind it.
-pub const ROOM: usize = 46097;
+// No listing has more than 46,102 bytes, and a 0 stands behind it.
+pub const ROOM: usize = 46103;
 
 pub struct Reply {
     pub answer: Answer,
@@ -29,7 +29,7 @@ fn tell(f: &[u8], j: Judgement, s: &[u8], a: Answer, out: &mut [u8]) -> usize
 
 // The listing of a file that has been judged, so that whoever lends the sheet judges it once.
 pub fn of_judged(f: &[u8], j: Judgement, s: &mut [u8], out: &mut [u8]) -> Reply
-    requires { ⌜ (j ≡ judgedOf (now f)) × Within (j .shape) × (46097 ≤ length (now out)) ⌝ }
+    requires { ⌜ (j ≡ judgedOf (now f)) × Within (j .shape) × (46103 ≤ length (now out)) ⌝ }
     ensures { λ r. ⌜ Lists (now (f .entry)) (now (s .entry)) (now (s .exit)) (now (out .entry)) (now (out .exit)) (r .answer) (r .length) ⌝ }
 {
     let a = work::of_judged(f, j, s);

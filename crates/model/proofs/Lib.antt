@@ -10,3 +10,4 @@ pub mod Stocks
 pub mod Example
 pub mod Open
 pub mod OneShot
+pub mod Alike

@@ -1,3 +1,4 @@
 pub mod Cases
 pub mod Setting
 pub mod Types
+pub mod Alike

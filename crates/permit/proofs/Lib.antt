@@ -1,3 +1,4 @@
 pub mod Draws
 pub mod Meaning
 pub mod Types
+pub mod Alike

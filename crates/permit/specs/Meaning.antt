@@ -27,14 +27,14 @@ pub data Checks (f s : List ℕ) (a : Answer) : Type 0 where
   -- 1 to 9, 15, 17: the file is refused
   refused : (judgeOf f ≡ Pass → ⊥) → SaysAs a (judgeOf f) → Checks f s a
   -- 10: the sheet's length is wrong
-  wrong-length : judgeOf f ≡ Pass → (length s ≡ sheetBytes (shape f) → ⊥) → Says a 10 0 0 → Checks f s a
+  wrong-length : judgeOf f ≡ Pass → (length s ≡ sheetBytes (shape f) → ⊥) → Says a 10 0 0 0 → Checks f s a
   -- 11: the lowest ill-formed block, by its first word
   ill-formed : judgeOf f ≡ Pass → length s ≡ sheetBytes (shape f) → (b : ℕ) → b < blockCount (shape f) → illBlock s (shape f) b ≡ true
-      → ((c : ℕ) → c < b → illBlock s (shape f) c ≡ false) → Says a 11 0 (blockAt (shape f) b) → Checks f s a
+      → ((c : ℕ) → c < b → illBlock s (shape f) c ≡ false) → Says a 11 0 (blockAt (shape f) b) 0 → Checks f s a
   -- 12: the lowest rule that is broken, and the lowest type that fails in any place where it is; a block without its mark fails in no type, so
   -- it is "6 when marks are all that is missing"
-  broken : WellFormed f s → (r k : ℕ) → ((q : ℕ) → q < r → Holds f s q) → (Holds f s r → ⊥) → LowestFailing (HoldsAt f s r) k → Says a 12 k r → Checks f s a
+  broken : WellFormed f s → (r k : ℕ) → ((q : ℕ) → q < r → Holds f s q) → (Holds f s r → ⊥) → LowestFailing (HoldsAt f s r) k → Says a 12 k r 0 → Checks f s a
   -- 13: the lowest reached node whose draw is not covered
   overdrawn : WellFormed f s → ((r : ℕ) → Holds f s r) → (n : ℕ) → IsReached f s n → (IsCovered f s n → ⊥) → ((m : ℕ) → m < n → IsReached f s m → IsCovered f s m) → SaysAs a (overdrawnAt f (tablesOf f) n) → Checks f s a
   -- 0: accepted
-  accepted : WellFormed f s → ((r : ℕ) → Holds f s r) → ((n : ℕ) → IsReached f s n → IsCovered f s n) → Says a 0 0 0 → Checks f s a
+  accepted : WellFormed f s → ((r : ℕ) → Holds f s r) → ((n : ℕ) → IsReached f s n → IsCovered f s n) → Says a 0 0 0 0 → Checks f s a

@@ -14,6 +14,7 @@ use Rattle.effect.proofs.Compute.{within}
 use Rattle.effect.proofs.Bit.{within-bit, bit-within}
 use Rattle.answer.specs.declared.Answer.{Answer}
 use Rattle.answer.specs.declared.Answer.the-variants.{Pass}
+use Rattle.answer.specs.Number.{SaysAs}
 use Rattle.answer.proofs.Settled.{says-only, says}
 use Rattle.tables.specs.declared.Tables.{Tables}
 use Rattle.tables.specs.Trailer.{tablesOf}
@@ -159,7 +160,7 @@ module _ (f : List ℕ) where
       pub unfit-at : n < u .nodes → Profiled f (Breaks f p) (unfitAt f u n)
       unfit-at l =
           let b : breaking f t p < t .nodes = rw (← is-lowest, ← e) l in
-          unfit pass n (subst (Breaks f p) (sym is-lowest) (found p b)) (λ m h w. omega (arith, least p m w, is-lowest)) (says (unfitAt f u n))
+          unfit pass n (subst (Breaks f p) (sym is-lowest) (found p b)) (λ m h w. omega (arith, least p m w, is-lowest)) (subst (λ v. SaysAs (unfitAt f u n) (unfitAt f v n)) e (says (unfitAt f u n)))
 
       pub fits-all : u .nodes ≤ n → Profiled f (Breaks f p) Pass
       fits-all l =

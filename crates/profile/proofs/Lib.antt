@@ -1,3 +1,4 @@
 pub mod Looks
 pub mod Breaks
 pub mod OneShot
+pub mod Alike

@@ -10,6 +10,7 @@ use Rattle.tables.specs.declared.Tables.{Tables}
 use Rattle.tables.specs.Trailer.{tablesOf}
 use Rattle.tables.specs.Kinds.{grantKind, drawKind}
 use Rattle.tables.specs.Fields.{entryOf, nodeMethod, nodeKind, nodeNumber, nodeCount, nodeRights}
+use Rattle.graph.specs.Places.{unfitAt}
 use Rattle.graph.specs.Judge.{judgeOf}
 use Rattle.graph.specs.Graph.{FlowRow, CallRow, CatchRow, OfKind}
 
@@ -45,7 +46,7 @@ module _ (f : List ℕ) where
   pub data Profiled (Breaks : ℕ → Type 0) (a : Answer) : Type 0 where
     -- 1 to 9, 15, 17: the file is refused
     refused : (judgeOf f ≡ Pass → ⊥) → SaysAs a (judgeOf f) → Profiled Breaks a
-    -- 14: the lowest node that breaks the profile
-    unfit : judgeOf f ≡ Pass → (n : ℕ) → Breaks n → ((m : ℕ) → m < n → Breaks m → ⊥) → Says a 14 0 n → Profiled Breaks a
+    -- 14: the lowest node that breaks the profile, with its line
+    unfit : judgeOf f ≡ Pass → (n : ℕ) → Breaks n → ((m : ℕ) → m < n → Breaks m → ⊥) → SaysAs a (unfitAt f t n) → Profiled Breaks a
     -- 0: no node breaks it
-    fits : judgeOf f ≡ Pass → ((n : ℕ) → Breaks n → ⊥) → Says a 0 0 0 → Profiled Breaks a
+    fits : judgeOf f ≡ Pass → ((n : ℕ) → Breaks n → ⊥) → Says a 0 0 0 0 → Profiled Breaks a

@@ -1,5 +1,5 @@
-// Judges each of the files that its arguments name by both profiles, and prints the name, and number, type and place of each
-// answer.
+// Judges each of the files that its arguments name by both profiles, and prints the name, and number, type, place and line
+// of each answer.
 use libc::STDOUT_FILENO;
 
 fn print_answer(a: answer::Answer) {
@@ -9,6 +9,8 @@ fn print_answer(a: answer::Answer) {
     io::print_decimal(STDOUT_FILENO, answer::type_of(a) as u64);
     io::write_all(STDOUT_FILENO, b" ");
     io::print_decimal(STDOUT_FILENO, answer::place(a) as u64);
+    io::write_all(STDOUT_FILENO, b" ");
+    io::print_decimal(STDOUT_FILENO, answer::line(a) as u64);
 }
 
 fn judge_open(name: &[u8], fd: i32) {

@@ -11,7 +11,7 @@ fn print_number(n: u64) {
     io::print_decimal(STDOUT_FILENO, n);
 }
 
-// `fits`, `unfit` and the node, or `refused`, the number and the place.
+// `fits`, `unfit`, the node and its line, or `refused`, the number and the place.
 fn print_answer(a: Answer) {
     let number = answer::number(a);
     if number == 0 {
@@ -20,12 +20,15 @@ fn print_answer(a: Answer) {
     }
     if number == 14 {
         print(b"unfit ");
+        print_number(answer::place(a) as u64);
+        print(b" ");
+        print_number(answer::line(a) as u64);
     } else {
         print(b"refused ");
         print_number(number as u64);
         print(b" ");
+        print_number(answer::place(a) as u64);
     }
-    print_number(answer::place(a) as u64);
     print(b"\n");
 }
 
@@ -38,9 +41,9 @@ fn print_profiles(one_shot: Answer, session: Answer) {
 
 // One byte more than the longest file is read, and refused without a look at the rest.
 fn main() {
-    let mut file = [0u8; 12463];
+    let mut file = [0u8; 13487];
     let n = io::read_full(STDIN_FILENO, &mut file);
-    if n > 12462 {
+    if n > 13486 {
         print_profiles(Answer::BadLength, Answer::BadLength);
         return;
     }

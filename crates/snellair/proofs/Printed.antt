@@ -21,13 +21,13 @@ at-start : (text rest : List ℕ) {input o : List ℕ} {n : ℕ} → o ≡ text 
 at-start text rest {input} {o} {n} e q p =
     (omega (arith, ap length e, length-append text rest), subst (Prints input) (sym (ap (take n) e ∙ take-at text rest n (sym q))) p)
 
-pub long-printed : {input o o′ : List ℕ} {n : ℕ} → 12462 < length input → Puts o 0 (firstLine BadLength) o′ n → Printed input o′ n
+pub long-printed : {input o o′ : List ℕ} {n : ℕ} → 13486 < length input → Puts o 0 (firstLine BadLength) o′ n → Printed input o′ n
 long-printed {o = o} {n = n} h p =
     let text : List ℕ = firstLine BadLength in
     let e : n ≡ length text = omega (arith, p .ends) in
     at-start text (drop (0 + length text) o) (p .is) e (too-long h)
 
-pub list-printed : {input s s′ o o′ : List ℕ} {a : Answer} {n : ℕ} → Lists input s s′ o o′ a n → 46097 ≤ length o → length input ≤ 12462 → length s ≡ sheetBytes (judgedOf input .shape) → Printed input o′ n
+pub list-printed : {input s s′ o o′ : List ℕ} {a : Answer} {n : ℕ} → Lists input s s′ o o′ a n → 46103 ≤ length o → length input ≤ 13486 → length s ≡ sheetBytes (judgedOf input .shape) → Printed input o′ n
 list-printed (too-short h u v y z) few k l = absurd (omega arith)
 list-printed {input} {s′ = r} {o = o} {a = a} (told h w e z) few k l =
     let text : List ℕ = textOf input a r in

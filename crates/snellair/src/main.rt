@@ -51,24 +51,24 @@ fn print(input: &[u8], listing: &[u8]) -> bool
 }
 
 // Its length is all that is said of each of these two, so that no proof has to look at its bytes.
-fn longest_file() -> [u8; 12463]
-    ensures { λ r. ⌜ 12463 ≡ length r ⌝ }
+fn longest_file() -> [u8; 13487]
+    ensures { λ r. ⌜ 13487 ≡ length r ⌝ }
 {
-    [0; 12463]
+    [0; 13487]
 }
 
-fn longest_listing() -> [u8; 46097]
-    ensures { λ r. ⌜ 46097 ≡ length r ⌝ }
+fn longest_listing() -> [u8; 46103]
+    ensures { λ r. ⌜ 46103 ≡ length r ⌝ }
 {
-    [0; 46097]
+    [0; 46103]
 }
 
 // The listing of the input at the start of `out`. The sheet is the part of the longest that the file asks for.
 fn list(input: &[u8], out: &mut [u8]) -> usize
-    requires { ⌜ 46097 ≤ length (now out) ⌝ }
+    requires { ⌜ 46103 ≤ length (now out) ⌝ }
     ensures { λ r. ⌜ (r ≤ length (now (out .exit))) × Prints (now (input .entry)) (take r (now (out .exit))) ⌝ }
 {
-    if input.len() > 12462 {
+    if input.len() > 13486 {
         return text::put_first(out, 0, Answer::BadLength);
     }
     let j = graph::judged(input);

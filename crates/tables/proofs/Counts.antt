@@ -31,8 +31,8 @@ module _ (f : List ℕ) where
   unfolding tablesOf
   types-are = refl
 
-  -- the sum 2M + 6N + 4F + 4C + 8 + 6X + 4T
-  pub end-is : tablesOf f .end ≡ 2 * tablesOf f .methods + 6 * tablesOf f .nodes + 4 * tablesOf f .flows + 4 * tablesOf f .calls + 8 + 6 * tablesOf f .catches + 4 * tablesOf f .types
+  -- the sum 2M + 8N + 4F + 4C + 8 + 6X + 4T
+  pub end-is : tablesOf f .end ≡ 2 * tablesOf f .methods + 8 * tablesOf f .nodes + 4 * tablesOf f .flows + 4 * tablesOf f .calls + 8 + 6 * tablesOf f .catches + 4 * tablesOf f .types
   unfolding tablesOf
   end-is = refl
 

@@ -8,21 +8,24 @@ use Rattle.tables.specs.declared.Tables.{Tables}
 unfoldable pub entryOf : List ℕ → ℕ → ℕ
 entryOf f m = wordAt f (2 * m)
 
--- nodes: 6 bytes: method, kind, number, count (one byte each), rights
+-- nodes: 8 bytes: method, kind, number, count (one byte each), rights, "the last two the source line, 0 for none"
 unfoldable pub nodeMethod : List ℕ → Tables → ℕ → ℕ
-nodeMethod f t n = byteAt f (t .nodesat + 6 * n)
+nodeMethod f t n = byteAt f (t .nodesat + 8 * n)
 
 unfoldable pub nodeKind : List ℕ → Tables → ℕ → ℕ
-nodeKind f t n = byteAt f (t .nodesat + 6 * n + 1)
+nodeKind f t n = byteAt f (t .nodesat + 8 * n + 1)
 
 unfoldable pub nodeNumber : List ℕ → Tables → ℕ → ℕ
-nodeNumber f t n = byteAt f (t .nodesat + 6 * n + 2)
+nodeNumber f t n = byteAt f (t .nodesat + 8 * n + 2)
 
 unfoldable pub nodeCount : List ℕ → Tables → ℕ → ℕ
-nodeCount f t n = byteAt f (t .nodesat + 6 * n + 3)
+nodeCount f t n = byteAt f (t .nodesat + 8 * n + 3)
 
 unfoldable pub nodeRights : List ℕ → Tables → ℕ → ℕ
-nodeRights f t n = wordAt f (t .nodesat + 6 * n + 4)
+nodeRights f t n = wordAt f (t .nodesat + 8 * n + 4)
+
+unfoldable pub nodeLine : List ℕ → Tables → ℕ → ℕ
+nodeLine f t n = wordAt f (t .nodesat + 8 * n + 6)
 
 -- flow: from, to
 unfoldable pub flowFrom : List ℕ → Tables → ℕ → ℕ

@@ -13,7 +13,7 @@ trailerAt f = length f - 14
 unfoldable pub trailer : List ℕ → ℕ → ℕ
 trailer f i = wordAt f (trailerAt f + 2 * i)
 
--- Seven tables stand one after the other from byte 0; that of the parents has 8 bytes. They end at 2M + 6N + 4F + 4C + 8 + 6X + 4T.
+-- Seven tables stand one after the other from byte 0; that of the parents has 8 bytes. They end at 2M + 8N + 4F + 4C + 8 + 6X + 4T.
 unfoldable pub tablesOf : List ℕ → Tables
 tablesOf f =
     record {
@@ -24,10 +24,10 @@ tablesOf f =
       catches = trailer f 4;
       types = trailer f 5;
       nodesat = 2 * trailer f 0;
-      flowsat = 2 * trailer f 0 + 6 * trailer f 1;
-      callsat = 2 * trailer f 0 + 6 * trailer f 1 + 4 * trailer f 2;
-      parentsat = 2 * trailer f 0 + 6 * trailer f 1 + 4 * trailer f 2 + 4 * trailer f 3;
-      catchesat = 2 * trailer f 0 + 6 * trailer f 1 + 4 * trailer f 2 + 4 * trailer f 3 + 8;
-      openingat = 2 * trailer f 0 + 6 * trailer f 1 + 4 * trailer f 2 + 4 * trailer f 3 + 8 + 6 * trailer f 4;
-      end = 2 * trailer f 0 + 6 * trailer f 1 + 4 * trailer f 2 + 4 * trailer f 3 + 8 + 6 * trailer f 4 + 4 * trailer f 5;
+      flowsat = 2 * trailer f 0 + 8 * trailer f 1;
+      callsat = 2 * trailer f 0 + 8 * trailer f 1 + 4 * trailer f 2;
+      parentsat = 2 * trailer f 0 + 8 * trailer f 1 + 4 * trailer f 2 + 4 * trailer f 3;
+      catchesat = 2 * trailer f 0 + 8 * trailer f 1 + 4 * trailer f 2 + 4 * trailer f 3 + 8;
+      openingat = 2 * trailer f 0 + 8 * trailer f 1 + 4 * trailer f 2 + 4 * trailer f 3 + 8 + 6 * trailer f 4;
+      end = 2 * trailer f 0 + 8 * trailer f 1 + 4 * trailer f 2 + 4 * trailer f 3 + 8 + 6 * trailer f 4 + 4 * trailer f 5;
     }

@@ -4,7 +4,7 @@ ghost use Prim.Native.Nat.{_+_, _*_, _<_};
 ghost use Rattle.words.specs.Bytes.{byteAt, wordAt};
 ghost use Rattle.tables.specs.Trailer.{trailerAt, trailer, tablesOf};
 ghost use Rattle.tables.specs.Rows.{rowsOf};
-ghost use Rattle.tables.specs.Fields.{entryOf, nodeMethod, nodeKind, nodeNumber, nodeCount, nodeRights, flowFrom, flowTo, callNode, callMethod, parentOf, catchFrom, catchException, catchTo, openingRights, openingCount};
+ghost use Rattle.tables.specs.Fields.{entryOf, nodeMethod, nodeKind, nodeNumber, nodeCount, nodeRights, nodeLine, flowFrom, flowTo, callNode, callMethod, parentOf, catchFrom, catchException, catchTo, openingRights, openingCount};
 
 // The kinds of nodes.
 pub const PLAIN: u16 = 0;
@@ -92,7 +92,7 @@ pub fn read(f: &[u8]) -> Tables
     let catches = trailer_word(f, 4);
     let types = trailer_word(f, 5);
     let nodesat = 2 * (methods as u32);
-    let flowsat = nodesat + 6 * (nodes as u32);
+    let flowsat = nodesat + 8 * (nodes as u32);
     let callsat = flowsat + 4 * (flows as u32);
     let parentsat = callsat + 4 * (calls as u32);
     let catchesat = parentsat + 8;
@@ -146,31 +146,37 @@ pub fn entry(f: &[u8], m: u16) -> u16
 pub fn node_method(f: &[u8], t: Tables, n: u16) -> u16
     ensures { λ r. ⌜ (r ≡ nodeMethod (now (f .entry)) t n) × (r < 256) ⌝ }
 {
-    byte_of(f, t.nodesat, 6, n, 0)
+    byte_of(f, t.nodesat, 8, n, 0)
 }
 
 pub fn node_kind(f: &[u8], t: Tables, n: u16) -> u16
     ensures { λ r. ⌜ (r ≡ nodeKind (now (f .entry)) t n) × (r < 256) ⌝ }
 {
-    byte_of(f, t.nodesat, 6, n, 1)
+    byte_of(f, t.nodesat, 8, n, 1)
 }
 
 pub fn node_number(f: &[u8], t: Tables, n: u16) -> u16
     ensures { λ r. ⌜ (r ≡ nodeNumber (now (f .entry)) t n) × (r < 256) ⌝ }
 {
-    byte_of(f, t.nodesat, 6, n, 2)
+    byte_of(f, t.nodesat, 8, n, 2)
 }
 
 pub fn node_count(f: &[u8], t: Tables, n: u16) -> u16
     ensures { λ r. ⌜ (r ≡ nodeCount (now (f .entry)) t n) × (r < 256) ⌝ }
 {
-    byte_of(f, t.nodesat, 6, n, 3)
+    byte_of(f, t.nodesat, 8, n, 3)
 }
 
 pub fn node_rights(f: &[u8], t: Tables, n: u16) -> u16
     ensures { λ r. ⌜ r ≡ nodeRights (now (f .entry)) t n ⌝ }
 {
-    word_of(f, t.nodesat, 6, n, 4)
+    word_of(f, t.nodesat, 8, n, 4)
+}
+
+pub fn node_line(f: &[u8], t: Tables, n: u16) -> u16
+    ensures { λ r. ⌜ r ≡ nodeLine (now (f .entry)) t n ⌝ }
+{
+    word_of(f, t.nodesat, 8, n, 6)
 }
 
 // The fields of row k of the flow,

@@ -9,22 +9,23 @@ use native.Mathlib.Omega.{arith}
 use Rattle.digits.specs.Text.{ascii, joined}
 use Rattle.digits.specs.Digits.{decimal}
 use Rattle.answer.specs.declared.Answer.{Answer}
-use Rattle.answer.specs.Number.{numberOf, typeOf, placeOf}
+use Rattle.answer.specs.Number.{numberOf, typeOf, placeOf, lineOf}
 use Rattle.single.specs.declared.Held.{Held}
 use Rattle.effect.specs.declared.Stock.{Stock}
 use Rattle.tables.specs.declared.Tables.{Tables}
 use Rattle.layout.specs.declared.Shape.{Shape}
 use Rattle.listing.specs.Node.{isReached, nodeStock}
-use Rattle.text.specs.Listing.{overdrawnLine, refusedLine, firstLine, countText, lineOf, stockLines, nodeLines, isVerdict, listingOf}
+use Rattle.text.specs.Listing.{overdrawnLine, refusedLine, firstLine, countText, stockLine, stockLines, nodeLines, isVerdict, listingOf}
 
 pub line-length : (n k : ℕ) (h : Held)
-    → length (lineOf n k h) ≡ length (decimal n) + 1 + length (decimal k) + 1 + 4 + 1 + length (countText (h .count)) + 1
-unfolding lineOf
+    → length (stockLine n k h) ≡ length (decimal n) + 1 + length (decimal k) + 1 + 4 + 1 + length (countText (h .count)) + 1
+unfolding stockLine
 line-length n k h = simp length-append
 
-pub overdrawn-length : (node type : ℕ) → length (overdrawnLine node type) ≡ 10 + length (decimal node) + 1 + length (decimal type) + 1
+pub overdrawn-length : (node type line : ℕ)
+    → length (overdrawnLine node type line) ≡ 10 + length (decimal node) + 1 + length (decimal type) + 1 + length (decimal line) + 1
 unfolding overdrawnLine
-overdrawn-length node type = simp length-append
+overdrawn-length node type line = simp length-append
 
 pub refused-length : (number place : ℕ) → length (refusedLine number place) ≡ 8 + length (decimal number) + 1 + length (decimal place) + 1
 unfolding refusedLine
@@ -36,7 +37,7 @@ module _ (a : Answer) where
   unfolding firstLine
   is-pass h = rw (eq-eqb (numberOf a) 0 h)
 
-  pub is-overdrawn : (numberOf a ≡ 0 → ⊥) → numberOf a ≡ 13 → firstLine a ≡ overdrawnLine (placeOf a) (typeOf a)
+  pub is-overdrawn : (numberOf a ≡ 0 → ⊥) → numberOf a ≡ 13 → firstLine a ≡ overdrawnLine (placeOf a) (typeOf a) (lineOf a)
   unfolding firstLine
   is-overdrawn z h = rw (ne-eqb (numberOf a) 0 z, eq-eqb (numberOf a) 13 h)
 

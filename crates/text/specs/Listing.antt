@@ -6,7 +6,7 @@ use lib.Dec.{eqb}
 use Rattle.digits.specs.Text.{ascii, joined}
 use Rattle.digits.specs.Digits.{decimal, fourHex}
 use Rattle.answer.specs.declared.Answer.{Answer}
-use Rattle.answer.specs.Number.{numberOf, typeOf, placeOf}
+use Rattle.answer.specs.Number.{numberOf, typeOf, placeOf, lineOf}
 use Rattle.single.specs.declared.Held.{Held}
 use Rattle.effect.specs.declared.Stock.{Stock}
 use Rattle.effect.specs.Six.{heldAt}
@@ -15,9 +15,9 @@ use Rattle.layout.specs.declared.Shape.{Shape}
 use Rattle.listing.specs.Node.{isReached, nodeStock}
 
 -- "First line `pass`, `overdrawn` and the node, or `refused`, the number and the place." After the node stands the type: "The listing's
--- first line becomes `overdrawn 3 0`."
-unfoldable pub overdrawnLine : ℕ → ℕ → List ℕ
-overdrawnLine node type = ascii "overdrawn " ++ decimal node ++ ascii " " ++ decimal type ++ ascii "\n"
+-- first line becomes `overdrawn 3 0`." And it "ends with" the line.
+unfoldable pub overdrawnLine : ℕ → ℕ → ℕ → List ℕ
+overdrawnLine node type line = ascii "overdrawn " ++ decimal node ++ ascii " " ++ decimal type ++ ascii " " ++ decimal line ++ ascii "\n"
 
 unfoldable pub refusedLine : ℕ → ℕ → List ℕ
 refusedLine number place = ascii "refused " ++ decimal number ++ ascii " " ++ decimal place ++ ascii "\n"
@@ -27,7 +27,7 @@ firstLine a =
     cond (eqb (numberOf a) 0)
     (ascii "pass\n")
     (cond (eqb (numberOf a) 13)
-    (overdrawnLine (placeOf a) (typeOf a))
+    (overdrawnLine (placeOf a) (typeOf a) (lineOf a))
     (refusedLine (numberOf a) (placeOf a)))
 
 -- "count in decimal or `*`": 255 is endless
@@ -35,13 +35,13 @@ unfoldable pub countText : ℕ → List ℕ
 countText count = cond (eqb count 255) (ascii "*") (decimal count)
 
 -- "node, type, rights as four lower-case hex digits, count in decimal or `*`. Single blanks; each line ends in a line feed."
-unfoldable pub lineOf : ℕ → ℕ → Held → List ℕ
-lineOf n k h =
+unfoldable pub stockLine : ℕ → ℕ → Held → List ℕ
+stockLine n k h =
     decimal n ++ ascii " " ++ decimal k ++ ascii " " ++ fourHex (h .rights) ++ ascii " " ++ countText (h .count) ++ ascii "\n"
 
 -- a line for each type of node n, at which the stock is held
 abbrev pub stockLines : ℕ → Stock → ℕ → List ℕ
-stockLines n held types = joined (λ k. lineOf n k (heldAt held k)) types
+stockLines n held types = joined (λ k. stockLine n k (heldAt held k)) types
 
 -- "one line for each reached node and type": those of node n of the file f, by the sheet s
 unfoldable pub nodeLines : List ℕ → Tables → Shape → List ℕ → ℕ → List ℕ

@@ -9,17 +9,19 @@ ghost use lib.ListN.{length};
 ghost use Rattle.digits.specs.Text.{joined};
 ghost use Rattle.digits.specs.Puts.{Puts};
 ghost use Rattle.layout.specs.Layout.{Within};
-ghost use Rattle.text.specs.Listing.{overdrawnLine, refusedLine, firstLine, countText, lineOf, stockLines, nodeLines, listingOf};
+ghost use Rattle.text.specs.Listing.{overdrawnLine, refusedLine, firstLine, countText, stockLine, stockLines, nodeLines, listingOf};
 
-fn put_overdrawn(out: &mut [u8], at: usize, node: usize, drawn: usize) -> usize
-    requires { ⌜ (node < 65536) × ((drawn < 65536) × (at + length (overdrawnLine node drawn) ≤ length (now out))) ⌝ }
-    ensures { λ r. ⌜ Puts (now (out .entry)) at (overdrawnLine node drawn) (now (out .exit)) r ⌝ }
+fn put_overdrawn(out: &mut [u8], at: usize, node: usize, drawn: usize, line: usize) -> usize
+    requires { ⌜ (node < 65536) × ((drawn < 65536) × ((line < 65536) × (at + length (overdrawnLine node drawn line) ≤ length (now out)))) ⌝ }
+    ensures { λ r. ⌜ Puts (now (out .entry)) at (overdrawnLine node drawn line) (now (out .exit)) r ⌝ }
 {
     let a = digits::put_text(out, at, b"overdrawn ");
     let b = digits::put_decimal(out, a, node);
     let c = digits::put_byte(out, b, b' ');
     let d = digits::put_decimal(out, c, drawn);
-    digits::put_byte(out, d, b'\n')
+    let e = digits::put_byte(out, d, b' ');
+    let f = digits::put_decimal(out, e, line);
+    digits::put_byte(out, f, b'\n')
 }
 
 fn put_refused(out: &mut [u8], at: usize, number: usize, place: usize) -> usize
@@ -33,7 +35,7 @@ fn put_refused(out: &mut [u8], at: usize, number: usize, place: usize) -> usize
     digits::put_byte(out, d, b'\n')
 }
 
-// `pass`, `overdrawn`, the node and the type, or `refused`, the number and the place.
+// `pass`, `overdrawn`, the node, the type and the line, or `refused`, the number and the place.
 pub fn put_first(out: &mut [u8], at: usize, a: Answer) -> usize
     requires { ⌜ at + length (firstLine a) ≤ length (now out) ⌝ }
     ensures { λ r. ⌜ Puts (now (out .entry)) at (firstLine a) (now (out .exit)) r ⌝ }
@@ -44,7 +46,9 @@ pub fn put_first(out: &mut [u8], at: usize, a: Answer) -> usize
         return digits::put_text(out, at, b"pass\n");
     }
     if number == 13 {
-        return put_overdrawn(out, at, place, answer::type_of(a) as usize);
+        let drawn = answer::type_of(a) as usize;
+        let line = answer::line(a) as usize;
+        return put_overdrawn(out, at, place, drawn, line);
     }
     put_refused(out, at, number as usize, place)
 }
@@ -62,8 +66,8 @@ fn put_count(out: &mut [u8], at: usize, count: u16) -> usize
 
 // The line of node n and type k.
 fn put_line(out: &mut [u8], at: usize, n: usize, k: usize, h: Held) -> usize
-    requires { ⌜ (n < 65536) × ((k < 65536) × (at + length (lineOf n k h) ≤ length (now out))) ⌝ }
-    ensures { λ r. ⌜ Puts (now (out .entry)) at (lineOf n k h) (now (out .exit)) r ⌝ }
+    requires { ⌜ (n < 65536) × ((k < 65536) × (at + length (stockLine n k h) ≤ length (now out))) ⌝ }
+    ensures { λ r. ⌜ Puts (now (out .entry)) at (stockLine n k h) (now (out .exit)) r ⌝ }
 {
     let rights = h.rights;
     let count = h.count;

@@ -4,3 +4,4 @@ pub mod Words
 pub mod Same
 pub mod Only
 pub mod Sweeping
+pub mod Alike

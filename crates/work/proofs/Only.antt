@@ -4,7 +4,7 @@ use mathlib.Core.Path.{_≡_, sym, ap, _∙_}
 use mathlib.Core.List.{List}
 use native.Mathlib.Decide.{decLt, ℕ-discrete}
 use native.Mathlib.Omega.{arith}
-use lib.ListN.{length}
+use lib.ListN.{length, getD}
 use borrow.Author.Tests.{lt-ltb, le-ltb, eq-eqb, ne-eqb}
 use Rattle.answer.specs.declared.Answer.{Answer}
 use Rattle.answer.specs.declared.Answer.the-variants.{Pass, BadSheet}
@@ -21,7 +21,7 @@ use Rattle.layout.specs.Layout.{methodAt, exitAt, nodeAt, sheetBytes, blockCoun
 use Rattle.layout.proofs.Blocks.{at-method, at-exit, at-node}
 use Rattle.sheet.proofs.Same.{SameWords}
 use Rattle.formed.proofs.Judged.{Formed, formed}
-use Rattle.rules.specs.Sheet.{sheet}
+use Rattle.rules.specs.Sheet.{sheet, WellFormed}
 use Rattle.permit.specs.Check.{checkOf}
 use Rattle.work.specs.Meaning.{Worked, WorksOut, refused, wrong-length, overdrawn, passes}
 use Rattle.work.proofs.Agree.{wrote, agree}
@@ -43,8 +43,8 @@ module _ (f : List ℕ) where
     node-under : (n : ℕ) → n < x .nodes → EffectUnder (x .types) (nodeAt x n) s r
     node-under n l k = let y = u .nodes-under n l (l, k) in (y .0 .1, y .1)
 
-  -- two sheets that are worked out are each under the other
-  module _ (r q : List ℕ) (v : Worked f r) (w : Worked f q) where
+  -- two well-formed sheets that are each under the other
+  module _ (r q : List ℕ) (v : WellFormed f r) (w : WellFormed f q) (high : Under permits (graphOf f) (sheet f r) (sheet f q)) (low : Under permits (graphOf f) (sheet f q) (sheet f r)) where
     same-block : (b : ℕ) → b < blockCount x → SameWords r q (blockAt x b) (blockSize x b)
     same-block b l = elim (decLt b (10 * x .methods)) [
       | yes h ↦ elim (ℕ-discrete (b % 10) 0) [
@@ -64,32 +64,30 @@ module _ (f : List ℕ) where
     ]
       where
         few : x .types ≤ 6
-        few = limits f (v .well-formed .0) .types
-
-        high : Under permits (graphOf f) (sheet f r) (sheet f q)
-        high = w .greatest r (v .obeys)
-
-        low : Under permits (graphOf f) (sheet f q) (sheet f r)
-        low = v .greatest q (w .obeys)
+        few = limits f (v .0) .types
 
         g : Formed r x b
-        g = formed r x b (v .well-formed .2 b l)
+        g = formed r x b (v .2 b l)
 
         k : Formed q x b
-        k = formed q x b (w .well-formed .2 b l)
+        k = formed q x b (w .2 b l)
 
-    -- There is only one sheet to write.
-    pub one-sheet : r ≡ q
-    one-sheet = same-sheet x r q (v .well-formed .1) (w .well-formed .1) (v .bytes) (w .bytes) same-block
+    -- have the same bytes.
+    pub under-each : ((i : ℕ) → getD r i 0 < 256) → ((i : ℕ) → getD q i 0 < 256) → r ≡ q
+    under-each a b = same-sheet x r q (v .1) (w .1) a b same-block
+
+  -- There is only one sheet to write.
+  pub one-sheet : (r q : List ℕ) → Worked f r → Worked f q → r ≡ q
+  one-sheet r q v w = under-each r q (v .well-formed) (w .well-formed) (w .greatest r (v .obeys)) (v .greatest q (w .obeys)) (v .bytes) (w .bytes)
 
   module _ (s : List ℕ) where
-    if-refused : {r : List ℕ} {a : Answer} → (judgeOf f ≡ Pass → ⊥) → WorksOut f s r a → (a ≡ judgeOf f) × (r ≡ s)
+    pub if-refused : {r : List ℕ} {a : Answer} → (judgeOf f ≡ Pass → ⊥) → WorksOut f s r a → (a ≡ judgeOf f) × (r ≡ s)
     if-refused n (refused m e v) = (says-only (judgeOf f) v, e)
     if-refused n (wrong-length p m e v) = absurd (n p)
     if-refused n (overdrawn l w m o h v) = absurd (n (w .well-formed .0))
     if-refused n (passes l w o v) = absurd (n (w .well-formed .0))
 
-    if-wrong : {r : List ℕ} {a : Answer} → judgeOf f ≡ Pass → (length s ≡ sheetBytes x → ⊥) → WorksOut f s r a → (a ≡ BadSheet) × (r ≡ s)
+    pub if-wrong : {r : List ℕ} {a : Answer} → judgeOf f ≡ Pass → (length s ≡ sheetBytes x → ⊥) → WorksOut f s r a → (a ≡ BadSheet) × (r ≡ s)
     if-wrong p n (refused m e v) = absurd (m p)
     if-wrong p n (wrong-length _ m e v) = (says-only BadSheet v, e)
     if-wrong p n (overdrawn l w m o h v) = absurd (n l)

@@ -40,8 +40,8 @@ pub data WorksOut (f s r : List ℕ) (a : Answer) : Type 0 where
   -- 1 to 9, 15, 17: the file is refused, and the sheet is as it was
   refused : (judgeOf f ≡ Pass → ⊥) → r ≡ s → SaysAs a (judgeOf f) → WorksOut f s r a
   -- 10: the sheet's length is wrong, and the sheet is as it was
-  wrong-length : judgeOf f ≡ Pass → (length s ≡ sheetBytes (shape f) → ⊥) → r ≡ s → Says a 10 0 0 → WorksOut f s r a
+  wrong-length : judgeOf f ≡ Pass → (length s ≡ sheetBytes (shape f) → ⊥) → r ≡ s → Says a 10 0 0 0 → WorksOut f s r a
   -- 13: the lowest node at which some run overdraws
   overdrawn : length s ≡ sheetBytes (shape f) → Worked f r → (n : ℕ) → Overdrawing f n → ((m : ℕ) → m < n → Overdrawing f m → ⊥) → SaysAs a (overdrawnAt f (tablesOf f) n) → WorksOut f s r a
   -- 0: no run overdraws
-  passes : length s ≡ sheetBytes (shape f) → Worked f r → ((n : ℕ) → Overdrawing f n → ⊥) → Says a 0 0 0 → WorksOut f s r a
+  passes : length s ≡ sheetBytes (shape f) → Worked f r → ((n : ℕ) → Overdrawing f n → ⊥) → Says a 0 0 0 0 → WorksOut f s r a

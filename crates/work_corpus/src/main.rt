@@ -1,4 +1,4 @@
-// Works out each of the graph files that its arguments name. Prints the name, the answer's number, type and place, and then each
+// Works out each of the graph files that its arguments name. Prints the name, the answer's number, type, place and line, and then each
 // marked block of the sheet: the number of its first word, and its words.
 use graph::Judgement;
 use layout::Shape;
@@ -50,6 +50,7 @@ fn work_out_in(name: &[u8], f: &[u8], j: Judgement, s: &mut [u8])
     print_next(answer::number(a) as u64);
     print_next(answer::type_of(a) as u64);
     print_next(answer::place(a) as u64);
+    print_next(answer::line(a) as u64);
     end_line();
     let x = j.shape;
     print_blocks(x, s);

@@ -5,15 +5,15 @@ use mathlib.Core.Path.{_≡_, sym, ap, _∙_}
 use lib.ListN.{length}
 use Rattle.digits.proofs.Join.{retext}
 use Rattle.answer.specs.declared.Answer.{Answer}
-use Rattle.answer.specs.Number.{numberOf, typeOf, placeOf}
+use Rattle.answer.specs.Number.{numberOf, typeOf, placeOf, lineOf}
 use Rattle.text.specs.Listing.{overdrawnLine, refusedLine, firstLine}
 use Rattle.text.proofs.Lengths.{is-pass, is-overdrawn, is-refused}
 use Rattle.text.proofs.put_first.Statement.{statement}
 use Rattle.text.proofs.put_first.Tie as tie
 
--- the first lines by the number, the place and the type that were found
-overdrawn-line : (a : Answer) {n p k : ℕ} → n ≡ numberOf a → p ≡ placeOf a → k ≡ typeOf a → (n ≡ 0 → ⊥) → n ≡ 13 → firstLine a ≡ overdrawnLine p k
-overdrawn-line a n p k z h = is-overdrawn a (λ e. z (n ∙ e)) (sym n ∙ h) ∙ (λ i. overdrawnLine (sym p i) (sym k i))
+-- the first lines by the number, the place, the type and the line that were found
+overdrawn-line : (a : Answer) {n p k l : ℕ} → n ≡ numberOf a → p ≡ placeOf a → k ≡ typeOf a → l ≡ lineOf a → (n ≡ 0 → ⊥) → n ≡ 13 → firstLine a ≡ overdrawnLine p k l
+overdrawn-line a n p k l z h = is-overdrawn a (λ e. z (n ∙ e)) (sym n ∙ h) ∙ (λ i. overdrawnLine (sym p i) (sym k i) (sym l i))
 
 refused-line : (a : Answer) {n p : ℕ} → n ≡ numberOf a → p ≡ placeOf a → (n ≡ 0 → ⊥) → (n ≡ 13 → ⊥) → firstLine a ≡ refusedLine n p
 refused-line a n p z h = is-refused a (λ e. z (n ∙ e)) (λ e. h (n ∙ e)) ∙ (λ i. refusedLine (sym n i) (sym p i))
@@ -31,20 +31,23 @@ returns c =
 
 put-overdrawn-requires : tie.Need-put-overdrawn-requires
 put-overdrawn-requires c κs =
-    let test = c .before .before in
+    let line = c .before in
+    let type = line .before in
+    let test = type .before in
     let place = test .before .before in
     let number = place .before in
-    (search needs, (search needs, omega (arith, ap length (overdrawn-line (number .before .before .args .a) (number .number .ensures) (place .place .ensures .0) (c .type-of .ensures) (test .before .if1 .left) (test .if2 .taken)))))
+    (search needs, (search needs, (search needs, omega (arith, ap length (overdrawn-line (number .before .before .args .a) (number .number .ensures) (place .place .ensures .0) (type .type-of .ensures) (line .line .ensures) (test .before .if1 .left) (test .if2 .taken))))))
 
 returns-2 : tie.Need-returns-2
 returns-2 c =
     let put = c .before .before in
-    let type = put .before in
-    let test = type .before .before in
+    let line = put .before .before in
+    let type = line .before in
+    let test = type .before in
     let place = test .before .before in
     let number = place .before in
     retext (put .put-overdrawn .ensures)
-    (sym (overdrawn-line (number .before .before .args .a) (number .number .ensures) (place .place .ensures .0) (type .type-of .ensures) (test .before .if1 .left) (test .if2 .taken)))
+    (sym (overdrawn-line (number .before .before .args .a) (number .number .ensures) (place .place .ensures .0) (type .type-of .ensures) (line .line .ensures) (test .before .if1 .left) (test .if2 .taken)))
 
 put-refused-requires : tie.Need-put-refused-requires
 put-refused-requires c κs =
@@ -71,6 +74,8 @@ put-first-spec =
     put-text-requires
     (λ c. search needs)
     returns
+    (λ c κs. search needs)
+    (λ c. search needs)
     (λ c κs. search needs)
     (λ c. search needs)
     put-overdrawn-requires

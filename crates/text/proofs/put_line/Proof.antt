@@ -1,6 +1,6 @@
 use borrow.Author.Needs.{needs}
 use native.Mathlib.Omega.{arith}
-use Rattle.text.specs.Listing.{lineOf}
+use Rattle.text.specs.Listing.{stockLine}
 use Rattle.digits.specs.Text.{ascii}
 use Rattle.digits.proofs.Join.{_then_, rest}
 use Rattle.text.proofs.Lengths.{line-length}
@@ -29,7 +29,7 @@ put-count-requires : tie.Need-put-count-requires
 put-count-requires c κs = let a = c .before .before .before .before .before .before .before .before .before .before .before .before .before .before .before .before .before .before .before .before .before .before .before .before .before .before .args in omega (arith, line-length (a .n) (a .k) (a .h))
 
 put-byte-requires-4 : tie.Need-put-byte-requires-4
-unfolding lineOf
+unfolding stockLine
 put-byte-requires-4 c κs =
     let p7 = c .before .before .before in
     let p6 = p7 .before .before .before .before in
@@ -49,7 +49,7 @@ put-byte-requires-4 c κs =
     (p1 .before .before .before .pre .1 .1)
 
 returns : tie.Need-returns
-unfolding lineOf
+unfolding stockLine
 returns c =
     let p8 = c .before .before in
     let p7 = p8 .before .before .before .before in

@@ -5,7 +5,7 @@ use native.Mathlib.Omega.{arith}
 use borrow.Author.Needs.{needs}
 use Rattle.effect.specs.declared.Stock.{Stock}
 use Rattle.effect.specs.Six.{heldAt}
-use Rattle.text.specs.Listing.{lineOf, stockLines}
+use Rattle.text.specs.Listing.{stockLine, stockLines}
 use Rattle.digits.specs.Puts.{Puts}
 use Rattle.digits.proofs.Join.{retext, start, turn, room}
 use Rattle.text.proofs.put_stock.Statement.{statement}
@@ -18,7 +18,7 @@ abbrev μ-loop : tie.MeasureT-loop
 μ-loop out₀ at n types held end₀ k₀ out end k = types - k
 
 abbrev line : ℕ → Stock → ℕ → List ℕ
-line n held k = lineOf n k (heldAt held k)
+line n held k = stockLine n k (heldAt held k)
 
 loop-holds : tie.Need-loop-holds Inv-loop μ-loop
 loop-holds c = let a = c .before .args in (search needs, start (line (a .n) (a .t5)) (a .out .now) (a .at) (omega arith))
