@@ -111,7 +111,7 @@ static unsigned random_repeats(struct random *r, const struct sizes *most)
 static void add_node(struct random *r, const struct sizes *most,
                      struct draft *d, unsigned method, bool goes_on)
 {
-    unsigned type = random_below(r, d->types);
+    unsigned type = random_below(r, d->types), count;
     switch (random_below(r, goes_on ? 12 : 16)) {
     case 0:
     case 1:
@@ -120,8 +120,8 @@ static void add_node(struct random *r, const struct sizes *most,
     case 2:
     case 3:
     case 4:
-        draft_grant(d, method, type, random_count(r, most),
-                    random_rights(r, true));
+        count = random_count(r, most);
+        draft_grant(d, method, type, count, random_rights(r, true));
         break;
     case 5:
     case 6:
@@ -185,14 +185,21 @@ static unsigned other_method(struct random *r, const struct draft *d,
     return random_below(r, d->methods);
 }
 
+/* For the exception or an ancestor of it. */
+static void add_catch(struct random *r, struct draft *d, unsigned node,
+                      unsigned exception)
+{
+    unsigned kind = random_kin(r, d, exception);
+    draft_catch(d, node, kind, other_node(r, d, node));
+}
+
 static void add_callee_and_catches(struct random *r, struct draft *d,
                                    unsigned node)
 {
     for (unsigned callees = 1 + random_below(r, 6) / 3; callees > 0; callees--)
         draft_callee(d, node, other_method(r, d, d->node[node].method));
     for (unsigned catches = random_below(r, 3); catches > 0; catches--)
-        draft_catch(d, node, random_kin(r, d, random_exception(r)),
-                    other_node(r, d, node));
+        add_catch(r, d, node, random_exception(r));
 }
 
 static void add_rows(struct random *r, struct draft *d, unsigned node)
@@ -202,8 +209,7 @@ static void add_rows(struct random *r, struct draft *d, unsigned node)
         return;
     if (kind == THROW) {
         for (unsigned catches = random_below(r, 3); catches > 0; catches--)
-            draft_catch(d, node, random_kin(r, d, d->node[node].number),
-                        other_node(r, d, node));
+            add_catch(r, d, node, d->node[node].number);
         return;
     }
     if (!one_in(r, 8))
@@ -509,14 +515,14 @@ static void damage_rare_field(struct random *r, const struct draft *d,
     unsigned node = random_below(r, d->nodes);
     uint8_t *row = graph + draft_table_at(d, NODES) + row_bytes[NODES] * node;
     uint8_t *catches = graph + draft_table_at(d, CATCHES);
-    if (d->catches.count > 0 && one_in(r, 2))
-        write_word(catches + 2
-                       + row_bytes[CATCHES] * random_below(r, d->catches.count),
-                   random_below(r, EXCEPTIONS + 1));
-    else if (d->node[node].kind == CALL)
+    if (d->catches.count > 0 && one_in(r, 2)) {
+        row = catches + row_bytes[CATCHES] * random_below(r, d->catches.count);
+        write_word(row + 2, random_below(r, EXCEPTIONS + 1));
+    } else if (d->node[node].kind == CALL) {
         row[3] = 0;
-    else if (d->node[node].kind == PLAIN)
+    } else if (d->node[node].kind == PLAIN) {
         row[1] = CALL, row[3] = 1;
+    }
 }
 
 /* Another parent, or what is none: the exception itself, the next one, a number
@@ -535,13 +541,14 @@ static void damage_parent(struct random *r, const struct draft *d,
 static void damage_tables(struct random *r, const struct draft *d,
                           uint8_t *graph, size_t length)
 {
+    unsigned bit;
     switch (random_below(r, 9)) {
     case 0:
         damage_order(r, d, graph);
         break;
     case 1:
-        graph[random_below(r, (unsigned)length)] ^=
-            (uint8_t)(1 << random_below(r, 8));
+        bit = random_below(r, 8);
+        graph[random_below(r, (unsigned)length)] ^= (uint8_t)(1u << bit);
         break;
     case 2: /* the last opening count, just before the trailer */
         write_word(graph + length - TRAILER_BYTES - 2,

@@ -492,7 +492,8 @@ static void draft_places(struct draft *d)
     d->node[3].kind = CALL;
     d->node[3].count = 3;
     draft_node(d, called, PLAIN);
-    draft_flow(d, draft_draw(d, called, 3, 0), draft_node(d, called, RETURN));
+    unsigned drawn = draft_draw(d, called, 3, 0);
+    draft_flow(d, drawn, draft_node(d, called, RETURN));
     draft_throw(d, called, 2);
     draft_throw(d, called, 5);
     draft_callee(d, 3, called);
@@ -578,7 +579,8 @@ static void test_type_of_overdrawn(struct draft *d, uint8_t *sheet)
     draft_start(d, 4);
     d->opening_count[1] = 1;
     unsigned m = draft_method(d);
-    draft_flow(d, draft_draw(d, m, 1, 0), draft_draw(d, m, 3, 0));
+    unsigned first = draft_draw(d, m, 1, 0);
+    draft_flow(d, first, draft_draw(d, m, 3, 0));
     expect(work_out_draft(d, sheet) == 13 + 256 * 3 + 65536 * 1, "type of 13",
            0);
 }
