@@ -1,6 +1,6 @@
 // Reads one graph file on standard input and prints a line for each profile: its name, and whether the graph fits it.
 use answer::Answer;
-use libc::STDIN_FILENO;
+use libc::STDERR_FILENO;
 use libc::STDOUT_FILENO;
 
 fn print(text: &[u8]) {
@@ -39,13 +39,26 @@ fn print_profiles(one_shot: Answer, session: Answer) {
     print_answer(session);
 }
 
-// One byte more than the longest file is read, and refused without a look at the rest.
-fn main() {
-    let mut file = [0u8; 13487];
-    let n = io::read_full(STDIN_FILENO, &mut file);
-    if n > 13486 {
+// A file above the longest is refused without a look at the rest of it.
+fn print_file(f: &[u8]) {
+    if f.len() > 13486 {
         print_profiles(Answer::BadLength, Answer::BadLength);
         return;
     }
-    print_profiles(profile::one_shot(&file[..n]), profile::session(&file[..n]));
+    print_profiles(profile::one_shot(f), profile::session(f));
+}
+
+// One byte more than the longest file is read.
+fn main() {
+    let mut file = [0u8; 13487];
+    let input = input::read(&mut file);
+    if input.failed {
+        io::write_all(
+            STDERR_FILENO,
+            b"snellair: standard input could not be read\n",
+        );
+        return;
+    }
+    let n = input.length;
+    print_file(&file[..n]);
 }

@@ -2,45 +2,14 @@
 // rights and the count that a run brings at least. What fails is said on standard error.
 use answer::Answer;
 use libc::STDERR_FILENO;
-use libc::STDIN_FILENO;
 use libc::STDOUT_FILENO;
 ghost use mathlib.Core.Path.{_≡_};
 ghost use Prim.Native.Nat.{_≤_};
 ghost use lib.ListN.{length, take};
 ghost use Rattle.listed.specs.Lists.{Prints};
 
-struct Input {
-    failed: bool,
-    length: usize,
-}
-
 fn complain(text: &[u8]) {
     io::write_all(STDERR_FILENO, text);
-}
-
-// All that comes on standard input, or as much as there is room for.
-fn read(file: &mut [u8]) -> Input
-    ensures { λ r. ⌜ r .length ≤ length (now (file .exit)) ⌝ }
-{
-    let mut n = 0;
-    while n < file.len() {
-        let got = libc::read(STDIN_FILENO, &mut file[n..]);
-        if got < 0 {
-            return Input {
-                failed: true,
-                length: 0,
-            };
-        }
-        let more = io::count(got, &file[n..]);
-        if more == 0 {
-            break;
-        }
-        n += more;
-    }
-    Input {
-        failed: false,
-        length: n,
-    }
 }
 
 // Only the listing of the input is ever printed.
@@ -82,7 +51,7 @@ fn list(input: &[u8], out: &mut [u8]) -> usize
 // One byte more than the longest file is read, and refused without a look at the rest.
 fn main() {
     let mut file = longest_file();
-    let input = read(&mut file);
+    let input = input::read(&mut file);
     if input.failed {
         complain(b"snellair: standard input could not be read\n");
         return;

@@ -2,8 +2,8 @@ use Prim.Native.Nat.{_-_, _≤_}
 use mathlib.Core.Path.{_≡_}
 use lib.ListN.{length}
 use borrow.Author.Needs.{needs}
-use Rattle.snellair.proofs.read.Statement.{statement}
-use Rattle.snellair.proofs.read.Tie as tie
+use Rattle.input.proofs.read.Statement.{statement}
+use Rattle.input.proofs.read.Tie as tie
 
 abbrev Inv-loop : tie.InvT-loop
 Inv-loop file₀ n₀ file n = (n ≤ length file) × (length file ≡ length file₀)
