@@ -1,7 +1,7 @@
 -- The laws of stocks and effects, for every value unless a premise says otherwise.
 --   then is composition      apply-then, then-assoc, then-mono, then-both-l, then-both-r
 --   both is the smaller      apply-both, apply-lower, both-comm, both-left, both-right, both-greatest, both-same, lower-same
---   nothing done             apply-nothing, then-nothing-l, then-nothing-r
+--   nothing done             apply-nothing, then-nothing-l, then-nothing-r, of effects with words for rights: both-words, then-words, nothing-words
 --   every result is normal   nothing-normal, draw-normal, grant-normal, then-normal, both-normal, form-kept
 --   the tests are exact      stock-sound, stock-complete, at-most-sound, at-most-complete
 --   the order                apply-mono, at-most-refl, at-most-trans, at-most-anti, stock-anti, canonical
@@ -12,7 +12,7 @@ use native.Mathlib.Omega.{arith}
 use native.Mathlib.Decide.{decLt}
 use native.Mathlib.Nat.{min-eq-left}
 use lib.Dec.{eqb}
-use lib.Bits.{bitOr, and-comm, and-le-r}
+use lib.Bits.{bitOr, and-comm, and-le-l, and-le-r}
 use Rattle.single.specs.declared.Held.{Held}
 use Rattle.single.specs.declared.One.{One}
 use Rattle.number.specs.Number.{counted, rightsAfter, countAfter}
@@ -27,7 +27,7 @@ use Rattle.effect.specs.Coordinate.{bit}
 use Rattle.effect.proofs.Bit.{bit-and, bit-ext, bit-high}
 use Rattle.effect.proofs.Rights.{bit-after, rights-nothing}
 use Rattle.effect.proofs.Count.{after-nothing, after-mono, after-top}
-use Rattle.effect.proofs.Six.{all-i, all-e, stock-at, among-ext, SixHeld, SixOnes}
+use Rattle.effect.proofs.Six.{all-i, all-e, stock-at, effect-at, among-ext, SixHeld, SixOnes}
 use Rattle.effect.proofs.Single.{HeldBelow, below-refl, below-trans, below-along, form-normal, form-same, one-then, one-both, one-lower, one-mono, held-sound, held-complete, one-refl, one-trans, one-sound, one-complete, one-anti}
 
 pub apply-then : (a b : Effect) (s : Stock) → applyOf (thenOf a b) s ≡ applyOf b (applyOf a s)
@@ -345,3 +345,28 @@ then-nothing-r a n v w =
     canonical (thenOf a nothingDone) a (then-normal a nothingDone) n refl v
     (λ s. apply-then a nothingDone s
     ∙ apply-nothing (applyOf a s) (applied-six a s) (λ k h. subst Fits (sym (applied-at a s k h)) (left-fits (oneAt a k) (heldAt s k) (w k h))))
+
+-- what is made has words for its keep-max where its parts have, and is six effects of one type
+pub both-words : (a b : Effect) → Words a → Words (bothOf a b)
+unfolding bothOf bothOne normalForm
+both-words a b w k h =
+    let at = ap (λ (x : One). x .keepmax) (effect-at (λ t. bothOne (oneAt a t) (oneAt b t)) k h) in
+    omega (arith, at, and-le-l (oneAt a k .keepmax) (oneAt b k .keepmax), w k h)
+
+pub then-words : (a b : Effect) → Words b → Words (thenOf a b)
+unfolding thenOf thenOne normalForm rightsAfter
+then-words a b w k h =
+    let at = ap (λ (x : One). x .keepmax) (effect-at (λ t. thenOne (oneAt a t) (oneAt b t)) k h) in
+    omega (arith, at, and-le-r (bitOr (oneAt a k .keepmax) (oneAt b k .keepin)) (oneAt b k .keepmax), w k h)
+
+pub nothing-words : Words nothingDone
+unfolding nothingDone idle
+nothing-words k h = omega (arith, ap (λ (x : One). x .keepmax) (effect-at (λ t. idle) k h))
+
+pub both-six : (a b : Effect) → SixOnes (bothOf a b)
+unfolding bothOf
+both-six a b = refl
+
+pub then-six : (a b : Effect) → SixOnes (thenOf a b)
+unfolding thenOf
+then-six a b = refl

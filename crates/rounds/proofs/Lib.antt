@@ -1,2 +1,5 @@
+pub mod Once
+pub mod Powers
+pub mod Steps
+pub mod Takes
 pub mod Cases
-pub mod Settles

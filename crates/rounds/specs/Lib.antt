@@ -1,1 +1,3 @@
+pub mod Chain
+pub mod Climb
 pub mod Rounds

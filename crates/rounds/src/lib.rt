@@ -2,8 +2,10 @@
 use effect::Effect;
 ghost use mathlib.Core.Path.{_≡_};
 ghost use mathlib.Core.Bool.{true};
-ghost use Rattle.model.specs.Stocks.{permits};
-ghost use Rattle.model.specs.Rounds.{lowest-rounds};
+ghost use mathlib.Core.List.{List};
+ghost use Prim.Native.Nat.{_<_, _≤_};
+ghost use Rattle.rounds.specs.Chain.{digitOn, powerChain, stepsOf, mostSteps, Taking};
+ghost use Rattle.rounds.specs.Climb.{climbOf};
 ghost use Rattle.rounds.specs.Rounds.{roundsOf};
 
 // What a call's targets must be at most: `earlier` where a round begins, the first or a further one; `whole` where any round has returned.
@@ -12,47 +14,108 @@ pub struct Rounds {
     pub whole: Effect,
 }
 
-// One more of the rounds that end in x.
-fn next(low: Effect, x: Effect) -> Effect
-    ensures { λ r. ⌜ r ≡ permits .both x (permits .then low x) ⌝ }
-{
-    effect::both(x, effect::then(low, x))
+// An effect taken up to so many times: `effect` is the lowest of it taken once up to so many times, `before` the lowest of it taken once
+// less, or not at all. `steps` is the number of "then" formed for `effect`; for `before` it is one less.
+pub struct Repeated {
+    pub before: Effect,
+    pub effect: Effect,
+    pub steps: u32,
 }
 
-// The lowest of x taken 1 to 1 + j times. A round that loses nothing is followed by none that does, so the loop is left after it; that
-// is looked for after 1, 2, 4, 8, .. rounds, since looking costs half a round.
-fn lowest(x: Effect, j: usize) -> Effect
-    ensures { λ r. ⌜ r ≡ lowest-rounds permits x j ⌝ }
+// A power on the way, and the number of "then" formed for it.
+struct Climb {
+    power: Effect,
+    steps: u32,
+}
+
+// One binary digit more: the square and, for a 1, y behind it.
+fn digit(p: Climb, y: Effect, one: bool) -> Climb
+    requires { ⌜ p .steps < 1000 ⌝ }
+    ensures { λ r. ⌜ ((l : List Effect) → p ≡ climbOf y l → r ≡ climbOf y (digitOn y one l)) ⌝ }
 {
-    let mut low = x;
-    let mut i = 0;
-    while i < j {
-        let lower = next(low, x);
-        if i & (i + 1) == 0 {
-            if effect::at_most(low, lower) {
-                return lower;
-            }
-        }
-        low = lower;
-        i += 1;
+    let square = effect::then(p.power, p.power);
+    if one {
+        return Climb {
+            power: effect::then(square, y),
+            steps: p.steps + 2,
+        };
     }
-    low
+    Climb {
+        power: square,
+        steps: p.steps + 1,
+    }
+}
+
+// y to the power e, by the binary digits of e below the highest, the higher first.
+fn power(y: Effect, e: usize) -> Climb
+    requires { ⌜ 0 < e ⌝ }
+    ensures { λ r. ⌜ r ≡ climbOf y (powerChain y e) ⌝ }
+{
+    let top = 63 - usize::leading_zeros(e);
+    let mut p = Climb { power: y, steps: 0 };
+    let mut i = 0;
+    while i < top {
+        i += 1;
+        p = digit(p, y, (e >> (top - i)) % 2 == 1);
+    }
+    p
+}
+
+// x taken up to so many times, by squaring: (nothing done, both, x) to the power of one less, then x once more. 0 is read as 1.
+fn take(x: Effect, repeats: usize) -> Repeated
+    ensures { λ r. ⌜ Taking x repeats r ⌝ }
+{
+    let none = effect::nothing_done();
+    if repeats < 2 {
+        return Repeated {
+            before: none,
+            effect: x,
+            steps: 0,
+        };
+    }
+    let p = power(effect::both(none, x), repeats - 1);
+    let before = p.power;
+    Repeated {
+        before: before,
+        effect: effect::then(before, x),
+        steps: p.steps + 1,
+    }
+}
+
+// The same for the repeats of a call's row.
+pub fn taken(x: Effect, repeats: u8) -> Repeated
+    ensures means { λ r. ⌜ Taking x repeats r ⌝ }
+    ensures few { λ r. ⌜ r .steps ≤ mostSteps ⌝ }
+{
+    take(x, repeats as usize)
+}
+
+// The number of "then" that `taken` spends: with e one less than the repeats, the bit length of e, less 1, plus the ones in e.
+pub fn steps_of(repeats: u8) -> u32
+    ensures { λ r. ⌜ r ≡ stepsOf repeats ⌝ }
+{
+    if repeats < 2 {
+        return 0;
+    }
+    let e = repeats as usize - 1;
+    63 - usize::leading_zeros(e) + usize::count_ones(e)
 }
 
 // The rounds of a call whose method returns by the exit x.
 fn returning(call: Effect, x: Effect, repeats: usize) -> Rounds
     ensures { λ r. ⌜ r ≡ roundsOf call true x repeats ⌝ }
 {
+    let t = take(x, repeats);
+    let whole = effect::then(call, t.effect);
     if repeats < 2 {
         return Rounds {
             earlier: call,
-            whole: effect::then(call, x),
+            whole: whole,
         };
     }
-    let low = lowest(x, repeats - 2);
     Rounds {
-        earlier: effect::both(call, effect::then(call, low)),
-        whole: effect::then(call, next(low, x)),
+        earlier: effect::then(call, t.before),
+        whole: whole,
     }
 }
 
