@@ -141,14 +141,14 @@ static void build_shuffled_loop(struct draft *d)
 }
 
 /* Three calls in each method, each to the next two methods. */
-static void add_calling_method(struct draft *d, unsigned m)
+static void add_calling_method(struct draft *d, unsigned m, unsigned repeats)
 {
     draft_grant(d, m, m % MOST_TYPES, 255 - m, 0x0F0F);
-    add_call(d, m, MOST_METHODS, 255);
+    add_call(d, m, MOST_METHODS, repeats);
     draft_draw(d, m, m % MOST_TYPES, 0x0101);
-    add_call(d, m, MOST_METHODS, 255);
+    add_call(d, m, MOST_METHODS, repeats);
     draft_node(d, m, PLAIN);
-    add_call(d, m, MOST_METHODS, 255);
+    add_call(d, m, MOST_METHODS, repeats);
     draft_draw(d, m, (m + 1) % MOST_TYPES, 0x0101);
     draft_node(d, m, RETURN);
     for (unsigned place = 0; place + 1 < METHOD_NODES; place++)
@@ -161,11 +161,21 @@ static void add_calling_method(struct draft *d, unsigned m)
             draft_callee(d, node_at(m, place), next);
 }
 
-static void build_repeats(struct draft *d)
+static void build_calls(struct draft *d, unsigned repeats)
 {
     start_full(d, MOST_METHODS);
     for (unsigned m = 0; m < MOST_METHODS; m++)
-        add_calling_method(d, m);
+        add_calling_method(d, m, repeats);
+}
+
+static void build_single_calls(struct draft *d)
+{
+    build_calls(d, 1);
+}
+
+static void build_repeats(struct draft *d)
+{
+    build_calls(d, 255);
 }
 
 /* Three throws, and a call that catches every second exception, in two ways. */
@@ -201,14 +211,16 @@ static void build_exceptions(struct draft *d)
         add_throwing_method(d, m);
 }
 
-/* Each method may return at once, or call the next, in a ring, and itself. */
-static void add_recursive_method(struct draft *d, unsigned m)
+/* Each method may return at once, or call the next, in a ring, and itself, so
+ * many times. */
+static void add_recursive_method(struct draft *d, unsigned m, unsigned on,
+                                 unsigned own)
 {
     draft_node(d, m, PLAIN);
     draft_draw(d, m, m % MOST_TYPES, 0x0101);
-    unsigned next = draft_call(d, m, 1);
+    unsigned next = draft_call(d, m, on);
     draft_node(d, m, PLAIN);
-    unsigned itself = draft_call(d, m, 2);
+    unsigned itself = draft_call(d, m, own);
     draft_node(d, m, PLAIN);
     draft_node(d, m, PLAIN);
     draft_node(d, m, RETURN);
@@ -220,11 +232,21 @@ static void add_recursive_method(struct draft *d, unsigned m)
     draft_callee(d, itself, m);
 }
 
-static void build_recursion(struct draft *d)
+static void build_recursive(struct draft *d, unsigned on, unsigned own)
 {
     start_full(d, MOST_METHODS);
     for (unsigned m = 0; m < MOST_METHODS; m++)
-        add_recursive_method(d, m);
+        add_recursive_method(d, m, on, own);
+}
+
+static void build_recursion(struct draft *d)
+{
+    build_recursive(d, 1, 2);
+}
+
+static void build_repeated_recursion(struct draft *d)
+{
+    build_recursive(d, 255, 255);
 }
 
 /* The generator also makes graphs with calls to nobody. */
@@ -262,9 +284,11 @@ const struct bench_case bench_cases[BENCH_CASES] = {
     {"loop-free, against table order", build_against_table_order},
     {"loop, in table order", build_loop},
     {"loop, shuffled", build_shuffled_loop},
+    {"calls with one repeat", build_single_calls},
     {"calls with 255 repeats", build_repeats},
     {"many exceptions", build_exceptions},
     {"deep recursion", build_recursion},
+    {"recursion with 255 repeats", build_repeated_recursion},
     {"any limit-size graph", build_random},
 };
 

@@ -9,7 +9,7 @@ struct bench_case {
     void (*build)(struct draft *d);
 };
 
-enum { BENCH_CASES = 10 };
+enum { BENCH_CASES = 12 };
 
 extern const struct bench_case bench_cases[BENCH_CASES];
 

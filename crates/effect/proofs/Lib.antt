@@ -6,6 +6,7 @@ pub mod Rights
 pub mod Single
 pub mod Six
 pub mod Laws
+pub mod Again
 pub mod Potential
 pub mod Coordinate
 pub mod Types

@@ -38,7 +38,7 @@ pub below-along : {h h′ g g′ : Held} → h ≡ h′ → g ≡ g′ → HeldB
 below-along p q l = rw (p, q) l
 
 -- what an effect leaves is left by its normal form, which is normal
-one-form : (x : One) (h : Held) → applyOne (normalForm x) h ≡ applyOne x h
+pub one-form : (x : One) (h : Held) → applyOne (normalForm x) h ≡ applyOne x h
 unfolding applyOne normalForm
 one-form x h =
     λ i. record {

@@ -1,5 +1,5 @@
 -- What the operations mean: what they leave of a stock, at each coordinate, and what their tests tell.
-use Prim.Native.Nat.{ℕ, _≤_, _<_}
+use Prim.Native.Nat.{ℕ, zero, suc, _≤_, _<_}
 use mathlib.Core.Path.{_≡_}
 use mathlib.Core.Bool.{Bool, true}
 use mathlib.Core.List.{List}
@@ -46,6 +46,12 @@ replaced t p m s = record { rights = with-at t p (s .rights); counts = with-at t
 -- "A draw takes 1 from a finite count, endless stays endless." An overdraw "leaves the rights, takes 1 unless the count is 0 or endless".
 unfoldable pub oneTaken : ℕ → Stock → Stock
 oneTaken t s = record { rights = s .rights; counts = with-at t (less (getD (s .counts) t 0) 1) (s .counts) }
+
+-- what an effect taken n times leaves, one time after the other; 0 is read as 1
+unfoldable pub againOf : Effect → ℕ → Stock → Stock
+againOf e zero s = applyOf e s
+againOf e (suc zero) s = applyOf e s
+againOf e (suc (suc n)) s = applyOf e (againOf e (suc n) s)
 
 -- "It covers a draw if it has every right drawn and a count of at least 1."
 pub record Covers (s : Stock) (t p : ℕ) : Type 0 where

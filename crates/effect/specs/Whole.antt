@@ -5,7 +5,7 @@ use mathlib.Core.Bool.{Bool, _&&_, not}
 use lib.Dec.{ltb, eqb}
 use Rattle.words.specs.Lowest.{lowest}
 use Rattle.single.specs.Single.{idle}
-use Rattle.single.specs.Formulas.{normalOne, drawn, granted, thenOne, bothOne, atMostOne, heldAtMost, lowerHeld, coversHeld}
+use Rattle.single.specs.Formulas.{normalOne, drawn, granted, thenOne, timesOne, bothOne, atMostOne, heldAtMost, lowerHeld, coversHeld}
 use Rattle.effect.specs.declared.Stock.{Stock}
 use Rattle.effect.specs.declared.Effect.{Effect}
 unfoldable pub use Rattle.effect.specs.Apply.{applyOf}
@@ -26,6 +26,9 @@ grantOf t p m = effectOf (λ k. oneIf (eqb k t) (granted p m))
 
 unfoldable pub thenOf : Effect → Effect → Effect
 thenOf a b = effectOf (λ k. thenOne (oneAt a k) (oneAt b k))
+
+unfoldable pub timesOf : Effect → ℕ → Effect
+timesOf e n = effectOf (λ k. timesOne (oneAt e k) n)
 
 unfoldable pub bothOf : Effect → Effect → Effect
 bothOf a b = effectOf (λ k. bothOne (oneAt a k) (oneAt b k))

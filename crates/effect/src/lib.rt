@@ -5,11 +5,11 @@ ghost use mathlib.Core.Path.{_≡_};
 ghost use Prim.Native.Nat.{_<_, min};
 ghost use lib.Dec.{eqb};
 ghost use Rattle.single.specs.Single.{applyOne};
-ghost use Rattle.single.specs.Formulas.{normalOne, thenOne, bothOne, atMostOne, heldAtMost, lowerHeld};
+ghost use Rattle.single.specs.Formulas.{normalOne, thenOne, timesOne, bothOne, atMostOne, heldAtMost, lowerHeld};
 ghost use Rattle.effect.specs.Six.{allSix, among, heldAt, stockOf, oneAt, effectOf};
-ghost use Rattle.effect.specs.Whole.{lowestNot, normalOf, nothingDone, oneIf, drawOf, grantOf, applyOf, thenOf, bothOf, atMostOf, stockAtMostOf, failsOf, stockFailsOf, lowerOf, coversOf};
+ghost use Rattle.effect.specs.Whole.{lowestNot, normalOf, nothingDone, oneIf, drawOf, grantOf, applyOf, thenOf, timesOf, bothOf, atMostOf, stockAtMostOf, failsOf, stockFailsOf, lowerOf, coversOf};
 ghost use Rattle.effect.specs.Coordinate.{Coordinate, at};
-ghost use Rattle.effect.specs.Meaning.{Below, AtMost, BelowAt, AtMostAt, LowestFailing, replaced, oneTaken, Covers, Normal, Leaves, Exactly};
+ghost use Rattle.effect.specs.Meaning.{Below, AtMost, BelowAt, AtMostAt, LowestFailing, replaced, oneTaken, againOf, Covers, Normal, Leaves, Exactly};
 
 pub struct Stock {
     pub rights: [u16; 6],
@@ -130,6 +130,13 @@ fn then_at(a: Effect, b: Effect, k: usize) -> One
     single::then(one_at(a, k), one_at(b, k))
 }
 
+fn times_at(e: Effect, n: usize, k: usize) -> One
+    requires { ⌜ k < 6 ⌝ }
+    ensures { λ r. ⌜ r ≡ timesOne (oneAt e k) n ⌝ }
+{
+    single::times(one_at(e, k), n)
+}
+
 fn both_at(a: Effect, b: Effect, k: usize) -> One
     requires { ⌜ k < 6 ⌝ }
     ensures { λ r. ⌜ r ≡ bothOne (oneAt a k) (oneAt b k) ⌝ }
@@ -247,6 +254,21 @@ pub fn then(a: Effect, b: Effect) -> Effect
         then_at(a, b, 3),
         then_at(a, b, 4),
         then_at(a, b, 5),
+    )
+}
+
+// The effect taken n times, one after the other; 0 is read as 1. It is as dear as one `then`, whatever n is.
+pub fn times(e: Effect, n: usize) -> Effect
+    ensures equals { λ r. ⌜ r ≡ timesOf e n ⌝ }
+    ensures means { λ r. ⌜ Leaves r (λ i s. at i (againOf e n s)) ⌝ }
+{
+    effect_of(
+        times_at(e, n, 0),
+        times_at(e, n, 1),
+        times_at(e, n, 2),
+        times_at(e, n, 3),
+        times_at(e, n, 4),
+        times_at(e, n, 5),
     )
 }
 

@@ -1,13 +1,14 @@
 -- Each definition of `Number` at each of its cases, as an equation under the facts that lead there.
-use Prim.Native.Nat.{ℕ, _+_, _-_, _≤_, _<_, min, max}
+use Prim.Native.Nat.{ℕ, _+_, _-_, _*_, _≤_, _<_, min, max}
 use mathlib.Core.Path.{_≡_, refl, sym, _∙_, ap}
 use mathlib.Core.Bool.{Bool, true, false, _||_}
 use native.Mathlib.Omega.{arith}
 use native.Mathlib.Decide.{ℕ-discrete, decLe}
+use native.Mathlib.Nat.{mul-le-mul, mul-zero, zero-mul}
 use lib.Dec.{leb, eqb}
 use borrow.Author.Tests.{eq-eqb, ne-eqb, lt-ltb, le-ltb, le-leb, lt-leb}
 use Rattle.number.specs.Number.{counted, less, left}
-use Rattle.number.specs.Formulas.{written, normDrop, thenCap, sumDrop, rank, largerDrop, countAtMost}
+use Rattle.number.specs.Formulas.{written, normDrop, thenCap, sumDrop, earlierDrop, rank, largerDrop, countAtMost}
 
 pub less-endless : (r d : ℕ) → 255 ≤ r → less r d ≡ 255
 unfolding less
@@ -68,6 +69,22 @@ sum-small d f h = simp (lt-leb 256 f (omega arith), lt-leb 256 d (omega arith), 
 pub sum-large : (d f : ℕ) → f < 256 → d < 256 → 254 ≤ d + f → sumDrop d f ≡ 255
 unfolding sumDrop
 sum-large d f p q h = simp (lt-leb 256 f p, lt-leb 256 d q, le-ltb (d + f) 254 h)
+
+-- the earlier of k drops: of one time, of no drop, of so many that they are endless
+pub earlier-once : (k d : ℕ) → k < 2 → earlierDrop k d ≡ 0
+unfolding earlierDrop
+earlier-once k d h = let e : k - 1 ≡ 0 = omega arith in omega (arith, ap (λ n. n * d) e, zero-mul d)
+
+pub earlier-none : (k d : ℕ) → d ≡ 0 → earlierDrop k d ≡ 0
+unfolding earlierDrop
+earlier-none k d h = omega (arith, ap (λ n. (k - 1) * n) h, mul-zero (k - 1))
+
+pub earlier-endless : (k d a b : ℕ) → a ≤ k - 1 → b ≤ d → 255 ≤ a * b → earlierDrop k d ≡ 255
+unfolding earlierDrop
+earlier-endless k d a b h l m = omega (arith, mul-le-mul {n₁ = a} {m₁ = b} {n₂ = k - 1} {m₂ = d} h l)
+
+pub earlier-fits : (k d : ℕ) → k ≤ 255 → d ≤ 255 → (k - 1) * d < 65536
+earlier-fits k d h l = omega (arith, mul-le-mul {n₁ = k - 1} {m₁ = d} {n₂ = 254} {m₂ = 255} (omega arith) l)
 
 pub rank-none : (d : ℕ) → 256 ≤ d → rank d ≡ 0
 unfolding rank

@@ -1,9 +1,9 @@
 -- The formulas of normal form, then, both and at most. What they come to is said in specs/Meaning.antt of `effect`.
-use Prim.Native.Nat.{ℕ, _+_, min}
+use Prim.Native.Nat.{ℕ, _+_, _-_, _*_, min}
 use mathlib.Core.Bool.{Bool, _&&_, _||_}
 use lib.Dec.{leb, ltb, eqb}
 use lib.Bits.{bitAnd}
-use Rattle.number.specs.Number.{pick, less}
+use Rattle.number.specs.Number.{pick, counted, less}
 
 -- "drop 254 is written 255"
 abbrev pub written : ℕ → ℕ
@@ -20,6 +20,10 @@ thenCap c e f = pick (leb 256 f) e (min (less c f) e)
 -- "drop = 256 if d is, else d + f, which from 254 on, or with either endless, is 255"
 unfoldable pub sumDrop : ℕ → ℕ → ℕ
 sumDrop d f = pick (leb 256 f) 256 (pick (leb 256 d) 256 (pick (ltb (d + f) 254) (d + f) 255))
+
+-- the drop of all of k times but one, each with the drop d; k = 0 is read as 1
+unfoldable pub earlierDrop : ℕ → ℕ → ℕ
+earlierDrop k d = counted ((k - 1) * d)
 
 -- "the larger drop (256 counts as smallest)"
 unfoldable pub rank : ℕ → ℕ

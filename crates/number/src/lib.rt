@@ -2,7 +2,7 @@
 ghost use mathlib.Core.Path.{_≡_};
 ghost use Prim.Native.Nat.{min};
 ghost use Rattle.number.specs.Number.{less, counted, countAfter, rightsAfter};
-ghost use Rattle.number.specs.Formulas.{written, normDrop, thenCap, sumDrop, rank, largerDrop, countAtMost, within};
+ghost use Rattle.number.specs.Formulas.{written, normDrop, thenCap, sumDrop, earlierDrop, rank, largerDrop, countAtMost, within};
 ghost use lib.Dec.{leb};
 
 pub fn less_of(r: u16, d: u16) -> u16
@@ -78,6 +78,25 @@ pub fn sum_drop(d: u16, f: u16) -> u16
         return d + f;
     }
     255
+}
+
+// The drop of all of k times but one, each with the drop d.
+pub fn earlier_drop(k: usize, d: u16) -> u16
+    ensures { λ x. ⌜ x ≡ earlierDrop k d ⌝ }
+{
+    if k < 2 {
+        return 0;
+    }
+    if d == 0 {
+        return 0;
+    }
+    if k > 255 {
+        return 255;
+    }
+    if d > 255 {
+        return 255;
+    }
+    smaller((k as u16 - 1) * d, 255)
 }
 
 pub fn larger_drop(d: u16, f: u16) -> u16

@@ -2,4 +2,5 @@ pub mod Once
 pub mod Powers
 pub mod Steps
 pub mod Takes
+pub mod Last
 pub mod Cases

@@ -23,9 +23,6 @@ both-last a b w = then-nothing-r (bothOf a b) (both-normal a b) (both-six a b) (
 then-first : (a b : Effect) → Words b → thenOf nothingDone (thenOf a b) ≡ thenOf a b
 then-first a b w = then-nothing-l (thenOf a b) (then-normal a b) (then-six a b) (then-words a b w)
 
-then-last : (a b : Effect) → Words b → thenOf (thenOf a b) nothingDone ≡ thenOf a b
-then-last a b w = then-nothing-r (thenOf a b) (then-normal a b) (then-six a b) (then-words a b w)
-
 -- (nothing done, both, low), then x, is x, both, low then x
 pub once-more : (x low : Effect) → Words x → thenOf (bothOf nothingDone low) x ≡ bothOf x (thenOf low x)
 once-more x low w =
@@ -34,25 +31,12 @@ once-more x low w =
     ∙ sym (then-both-r nothingDone x (thenOf low x))
     ∙ both-first x (thenOf low x) w
 
--- and after a call
-pub call-once : (call low : Effect) → Words call → Words low → thenOf call (bothOf nothingDone low) ≡ bothOf call (thenOf call low)
-call-once call low v w =
-    then-both-r call nothingDone low
-    ∙ ap (bothOf (thenOf call nothingDone)) (sym (then-last call low w))
-    ∙ sym (then-both-l call (thenOf call low) nothingDone)
-    ∙ both-last call (thenOf call low) v
-
 module _ (x : Effect) where
   abbrev low : ℕ → Effect
   low n = lowest-rounds permits x n
 
   abbrev once : Effect
   once = bothOf nothingDone x
-
-  pub low-words : Words x → (n : ℕ) → Words (low n)
-  unfolding lowest-rounds
-  low-words w zero = w
-  low-words w (suc n) = both-words x (thenOf (low n) x) w
 
   more-mono : (a b : Effect) → atMostOf a b ≡ true → atMostOf (bothOf x (thenOf a x)) (bothOf x (thenOf b x)) ≡ true
   more-mono a b h =

@@ -16,25 +16,25 @@ use Rattle.rounds.specs.Chain.{powerChain, bitLength, stepsOf, mostSteps
 use Rattle.rounds.proofs.Powers.{chain-length}
 
 -- the highest digit
-module _ (e : ℕ) (some : 0 < e) (word : e < 2 ^ 64) where
-  top : (j : ℕ) × (leadingZeros 64 e + suc j ≡ 64) × (2 ^ j ≤ e) × (e < 2 ^ suc j)
-  top = leading-top 64 e some word
+module _ (e : ℕ) (some : 0 < e) (word : e < 2 ^ 32) where
+  top : (j : ℕ) × (leadingZeros 32 e + suc j ≡ 32) × (2 ^ j ≤ e) × (e < 2 ^ suc j)
+  top = leading-top 32 e some word
 
-  pub top-word : leadingZeros 64 e ≤ 63
+  pub top-word : leadingZeros 32 e ≤ 31
   top-word = omega (arith, top .1)
 
-  pub top-one : e / 2 ^ (63 - leadingZeros 64 e) ≡ 1
+  pub top-one : e / 2 ^ (31 - leadingZeros 32 e) ≡ 1
   top-one =
       let j = top .0 in
-      let at : 63 - leadingZeros 64 e ≡ j = omega (arith, top .1) in
+      let at : 31 - leadingZeros 32 e ≡ j = omega (arith, top .1) in
       let parts : 1 * 2 ^ j + (e - 2 ^ j) ≡ e = omega (arith, top .2) in
       ap (λ n. e / 2 ^ n) at ∙ ap (λ n. n / 2 ^ j) (sym parts) ∙ high 1 j (omega (arith, top .2, top .3, pow-suc 2 j))
 
   pub steps-length : (y : Effect) → suc (length (powerChain y e)) ≡ bitLength e - 1 + ones e
   steps-length y = omega (arith, top .1, chain-length y (top .0) e (top .2) (top .3))
 
-  pub steps-word : bitLength e - 1 + ones e ≤ 127
-  steps-word = omega (arith, top .1, ones-le 64 e word)
+  pub steps-word : bitLength e - 1 + ones e ≤ 63
+  steps-word = omega (arith, top .1, ones-le 32 e word)
 
 pub no-steps : (r : ℕ) → r < 2 → 0 ≡ stepsOf r
 unfolding stepsOf
@@ -42,7 +42,7 @@ no-steps zero h = refl
 no-steps (suc zero) h = refl
 no-steps (suc (suc n)) h = absurd (omega arith)
 
-pub some-steps : (r : ℕ) → 2 ≤ r → 63 - leadingZeros 64 (r - 1) + ones (r - 1) ≡ stepsOf r
+pub some-steps : (r : ℕ) → 2 ≤ r → 31 - leadingZeros 32 (r - 1) + ones (r - 1) ≡ stepsOf r
 unfolding stepsOf
 some-steps zero h = absurd (omega arith)
 some-steps (suc zero) h = absurd (omega arith)

@@ -15,11 +15,11 @@ use Rattle.model.specs.Stocks.{permits}
 use Rattle.model.specs.Rounds.{lowest-rounds}
 use Rattle.rounds.specs.declared.Repeated.{Repeated}
 use Rattle.rounds.specs.declared.Climb.{Climb}
-use Rattle.rounds.specs.Chain.{onceOrNot, lastOf, digitOn, powerChain, chainOf, beforeOf, stepsOf, Taking}
+use Rattle.rounds.specs.Chain.{onceOrNot, lastOf, digitOn, powerChain, chainOf, beforeOf, stepsOf, mostSteps, Taking}
 use Rattle.rounds.specs.Climb.{climbOf}
 use Rattle.rounds.proofs.Once.{power, once-more, powers-lower}
 use Rattle.rounds.proofs.Powers.{chain-none, chain-half, chain-last}
-use Rattle.rounds.proofs.Steps.{steps-length, steps-word}
+use Rattle.rounds.proofs.Steps.{steps-length, steps-word, steps-few}
 
 abbrev climbed : Effect → ℕ → Climb
 climbed power steps = record { power = power; steps = steps }
@@ -40,7 +40,7 @@ one-more y square p one h s l q =
     rw (h, s, q) (λ i. climbed (thenOf (lastOf y l) (lastOf y l)) (n i))
 
 -- a chain has few members
-pub chain-few : (y : Effect) (e : ℕ) (p : Climb) → 0 < e → e < 2 ^ 64 → p ≡ climbOf y (powerChain y e) → p .steps ≤ 127
+pub chain-few : (y : Effect) (e : ℕ) (p : Climb) → 0 < e → e < 2 ^ 32 → p ≡ climbOf y (powerChain y e) → p .steps ≤ 63
 unfolding climbOf
 chain-few y e p s f h = omega (arith, ap (λ (q : Climb). q .steps) h, steps-length e s f y, steps-word e s f)
 
@@ -74,7 +74,7 @@ module _ (y : Effect) (e : ℕ) where
       let all : e / 2 ^ n ≡ e = ap (λ k. e / 2 ^ k) h ∙ omega arith in
       w .reached ∙ ap (λ k. climbOf y (powerChain y k)) all
 
-  pub way-few : (n : ℕ) (p : Climb) → e < 2 ^ 64 → OnTheWay y e n p → p .steps ≤ 127
+  pub way-few : (n : ℕ) (p : Climb) → e < 2 ^ 32 → OnTheWay y e n p → p .steps ≤ 63
   way-few n p h w = chain-few y (e / 2 ^ n) p (w .some) (omega (arith, shr-le e n)) (w .reached)
 
 abbrev given : Effect → Effect → ℕ → Repeated
@@ -87,7 +87,7 @@ few-taken x none (suc zero) h e = record { before = e; effect = refl; last = ref
 few-taken x none (suc (suc r)) h e = absurd (omega arith)
 
 -- e is one less than the repeats, and is not 0
-module _ (x : Effect) (n : ℕ) (word : suc n < 2 ^ 64) (w : Words x) where
+module _ (x : Effect) (n : ℕ) (word : suc n < 2 ^ 32) (w : Words x) where
   abbrev y : Effect
   y = onceOrNot x
 
@@ -111,7 +111,7 @@ module _ (x : Effect) (n : ℕ) (word : suc n < 2 ^ 64) (w : Words x) where
         counted = omega (arith, steps-length (suc n) (omega arith) word y);
       }
 
-pub more-taken : (x none y effect : Effect) (p : Climb) (r : ℕ) → 2 ≤ r → r < 2 ^ 64 → Words x
+pub more-taken : (x none y effect : Effect) (p : Climb) (r : ℕ) → 2 ≤ r → r < 256 → Words x
     → none ≡ nothingDone → y ≡ bothOf none x → p ≡ climbOf y (powerChain y (r - 1)) → effect ≡ thenOf (p .power) x
     → Taking x r (given (p .power) effect (p .steps + 1))
 unfolding climbOf
@@ -120,3 +120,6 @@ more-taken x none y effect p (suc zero) h f w a b c d = absurd (omega arith)
 more-taken x none y effect p (suc (suc n)) h f w a b c d =
     let l : suc (suc n) - 1 ≡ suc n = omega arith in
     rw (d, c, b, a, l) (by-squares x n (omega arith) w)
+
+pub with-few : {x : Effect} {r : ℕ} {t : Repeated} → r < 256 → Taking x r t → Taking x r t × (t .steps ≤ mostSteps)
+with-few {x} {r} {t} h p = (p, omega (arith, p .counted, steps-few r h))

@@ -61,7 +61,7 @@ beforeOf x (suc zero) = permits .nothing
 beforeOf x (suc (suc r)) = permits .both (permits .nothing) (lowest-rounds permits x r)
 
 abbrev pub bitLength : ℕ → ℕ
-bitLength e = 64 - leadingZeros 64 e
+bitLength e = 32 - leadingZeros 32 e
 
 -- "For repeats = 1 it is 0. Otherwise, with e = repeats - 1, it is the bit length of e, less 1, plus the ones in e"
 unfoldable pub stepsOf : ℕ → ℕ

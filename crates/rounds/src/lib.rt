@@ -47,11 +47,11 @@ fn digit(p: Climb, y: Effect, one: bool) -> Climb
 }
 
 // y to the power e, by the binary digits of e below the highest, the higher first.
-fn power(y: Effect, e: usize) -> Climb
+fn power(y: Effect, e: u32) -> Climb
     requires { ⌜ 0 < e ⌝ }
     ensures { λ r. ⌜ r ≡ climbOf y (powerChain y e) ⌝ }
 {
-    let top = 63 - usize::leading_zeros(e);
+    let top = 31 - u32::leading_zeros(e);
     let mut p = Climb { power: y, steps: 0 };
     let mut i = 0;
     while i < top {
@@ -62,8 +62,9 @@ fn power(y: Effect, e: usize) -> Climb
 }
 
 // x taken up to so many times, by squaring: (nothing done, both, x) to the power of one less, then x once more. 0 is read as 1.
-fn take(x: Effect, repeats: usize) -> Repeated
-    ensures { λ r. ⌜ Taking x repeats r ⌝ }
+pub fn taken(x: Effect, repeats: u8) -> Repeated
+    ensures means { λ r. ⌜ Taking x repeats r ⌝ }
+    ensures few { λ r. ⌜ r .steps ≤ mostSteps ⌝ }
 {
     let none = effect::nothing_done();
     if repeats < 2 {
@@ -73,21 +74,13 @@ fn take(x: Effect, repeats: usize) -> Repeated
             steps: 0,
         };
     }
-    let p = power(effect::both(none, x), repeats - 1);
+    let p = power(effect::both(none, x), repeats as u32 - 1);
     let before = p.power;
     Repeated {
         before: before,
         effect: effect::then(before, x),
         steps: p.steps + 1,
     }
-}
-
-// The same for the repeats of a call's row.
-pub fn taken(x: Effect, repeats: u8) -> Repeated
-    ensures means { λ r. ⌜ Taking x repeats r ⌝ }
-    ensures few { λ r. ⌜ r .steps ≤ mostSteps ⌝ }
-{
-    take(x, repeats as usize)
 }
 
 // The number of "then" that `taken` spends: with e one less than the repeats, the bit length of e, less 1, plus the ones in e.
@@ -97,25 +90,25 @@ pub fn steps_of(repeats: u8) -> u32
     if repeats < 2 {
         return 0;
     }
-    let e = repeats as usize - 1;
-    63 - usize::leading_zeros(e) + usize::count_ones(e)
+    let e = repeats as u32 - 1;
+    31 - u32::leading_zeros(e) + u32::count_ones(e)
 }
 
-// The rounds of a call whose method returns by the exit x.
+// The rounds of a call whose method returns by the exit x. A round leaves at most what the one before it left, so the lowest of some rounds
+// is the last of them, and `effect::times` is cheaper than a chain of products.
 fn returning(call: Effect, x: Effect, repeats: usize) -> Rounds
     ensures { λ r. ⌜ r ≡ roundsOf call true x repeats ⌝ }
 {
-    let t = take(x, repeats);
-    let whole = effect::then(call, t.effect);
-    if repeats < 2 {
+    if repeats <= 1 {
         return Rounds {
             earlier: call,
-            whole: whole,
+            whole: effect::then(call, x),
         };
     }
+    let last = effect::then(call, effect::times(x, repeats - 1));
     Rounds {
-        earlier: effect::then(call, t.before),
-        whole: whole,
+        earlier: effect::both(call, last),
+        whole: effect::then(last, x),
     }
 }
 

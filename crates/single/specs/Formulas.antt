@@ -1,12 +1,12 @@
 -- The formulas of the operations on one type. What they come to is said in specs/Meaning.antt of `effect`.
 use Prim.Native.Nat.{ℕ, min}
-use mathlib.Core.Bool.{Bool, _&&_}
+use mathlib.Core.Bool.{Bool, _&&_, cond}
 use lib.Dec.{leb, eqb}
 use lib.Bits.{bitAnd}
 use Rattle.single.specs.declared.Held.{Held}
 use Rattle.single.specs.declared.One.{One}
-use Rattle.number.specs.Number.{counted, rightsAfter}
-use Rattle.number.specs.Formulas.{normDrop, thenCap, sumDrop, largerDrop, countAtMost, within}
+use Rattle.number.specs.Number.{counted, less, rightsAfter}
+use Rattle.number.specs.Formulas.{normDrop, thenCap, sumDrop, earlierDrop, largerDrop, countAtMost, within}
 use Rattle.single.specs.Single.{dropOnly}
 
 -- "Normal form: keep-in within keep-max; cap 0 has drop 256; drop 254 is written 255."
@@ -39,6 +39,19 @@ thenOne x y =
       cap = thenCap (x .cap) (y .cap) (y .drop);
       drop = sumDrop (x .drop) (y .drop);
     })
+
+-- x taken k times, without a repetition: the effect itself if its drop is none; else the cap less all drops but the first, and the sum of
+-- all drops. The rights are those after one time.
+unfoldable pub timesOne : One → ℕ → One
+timesOne x k =
+    cond (leb 256 (x .drop)) (normalForm x)
+    (normalForm
+    (record {
+      keepin = x .keepin;
+      keepmax = x .keepmax;
+      cap = less (x .cap) (earlierDrop k (x .drop));
+      drop = sumDrop (earlierDrop k (x .drop)) (x .drop);
+    }))
 
 -- "Both: the smaller cap, the larger drop (256 counts as smallest), rights and-ed field by field."
 unfoldable pub bothOne : One → One → One

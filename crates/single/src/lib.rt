@@ -1,7 +1,7 @@
 // Stocks and effects of one type.
 ghost use mathlib.Core.Path.{_≡_};
 ghost use Rattle.single.specs.Single.{dropOnly, idle, applyOne};
-ghost use Rattle.single.specs.Formulas.{normalForm, normalOne, drawn, granted, thenOne, bothOne, atMostOne, heldAtMost, lowerHeld, coversHeld};
+ghost use Rattle.single.specs.Formulas.{normalForm, normalOne, drawn, granted, thenOne, timesOne, bothOne, atMostOne, heldAtMost, lowerHeld, coversHeld};
 
 // What a stock holds of one type.
 pub struct Held {
@@ -91,6 +91,22 @@ pub fn then(x: One, y: One) -> One
         keepmax: number::rights_after(y.keepin, y.keepmax, x.keepmax),
         cap: number::cap_then(x.cap, y.cap, y.drop),
         drop: number::sum_drop(x.drop, y.drop),
+    })
+}
+
+// The effect taken k times, without a repetition; 0 is read as 1.
+pub fn times(x: One, k: usize) -> One
+    ensures { λ r. ⌜ r ≡ timesOne x k ⌝ }
+{
+    if x.drop >= 256 {
+        return normal_form(x);
+    }
+    let d = number::earlier_drop(k, x.drop);
+    normal_form(One {
+        keepin: x.keepin,
+        keepmax: x.keepmax,
+        cap: number::less_of(x.cap, d),
+        drop: number::sum_drop(d, x.drop),
     })
 }
 

@@ -7,7 +7,7 @@ use Rattle.rounds.proofs.power.Statement.{statement}
 use Rattle.rounds.proofs.power.Tie as tie
 
 abbrev Inv-loop : tie.InvT-loop
-Inv-loop y e top p₀ i₀ p i = (top ≤ 63) × (i ≤ top) × OnTheWay y e (top - i) p
+Inv-loop y e top p₀ i₀ p i = (top ≤ 31) × (i ≤ top) × OnTheWay y e (top - i) p
 
 abbrev μ-loop : tie.MeasureT-loop
 μ-loop y e top p₀ i₀ p i = top - i
@@ -23,9 +23,6 @@ add-i c = omega (arith, c .before .loop .inv .0)
 
 sub-digit : tie.Need-sub-digit Inv-loop μ-loop
 sub-digit c = omega arith
-
-cast-digit : tie.Need-cast-digit Inv-loop μ-loop
-cast-digit c = omega arith
 
 shr-digit : tie.Need-shr-digit Inv-loop μ-loop
 shr-digit c = omega (arith, c .before .loop .inv .0)
@@ -61,7 +58,6 @@ power-spec =
     loop-holds
     add-i
     sub-digit
-    cast-digit
     shr-digit
     digit-requires
     loop-less

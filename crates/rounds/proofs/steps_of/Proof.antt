@@ -15,8 +15,8 @@ sub-result c = top-word (c .before .args .repeats - 1) (omega arith) (omega arit
 add-result : tie.Need-add-result
 add-result c =
     let e = c .before .args .repeats - 1 in
-    let h : e < 2 ^ 64 = omega arith in
-    omega (arith, ones-le 64 e h)
+    let h : e < 2 ^ 32 = omega arith in
+    omega (arith, ones-le 32 e h)
 
 returns-2 : tie.Need-returns-2
 returns-2 c = some-steps (c .before .args .repeats) (search needs)
