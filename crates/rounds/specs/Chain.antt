@@ -42,12 +42,11 @@ chainOf x zero = []
 chainOf x (suc zero) = []
 chainOf x (suc (suc r)) = permits .then (lastOf (onceOrNot x) (powerChain (onceOrNot x) (suc r))) x ∷ powerChain (onceOrNot x) (suc r)
 
--- what a product may be formed of: the exit, the exit once or not at all, or a product formed before
+-- what a product may be formed of: the exit, the exit once or not at all, or the product formed before
 pub data Factor (x : Effect) : List Effect → Effect → Type 0 where
   the-exit : {l : List Effect} → Factor x l x
   once-or-not : {l : List Effect} → Factor x l (onceOrNot x)
   last : {l : List Effect} {a : Effect} → Factor x (a ∷ l) a
-  before : {l : List Effect} {a b : Effect} → Factor x l b → Factor x (a ∷ l) b
 
 -- every member of a chain is the "then" of two of these, so its length is the number of "then" formed
 pub data Formed (x : Effect) : List Effect → Type 0 where

@@ -14,8 +14,8 @@ pub struct Rounds {
     pub whole: Effect,
 }
 
-// An effect taken up to so many times: `effect` is the lowest of it taken once up to so many times, `before` the lowest of it taken once
-// less, or not at all. `steps` is the number of "then" formed for `effect`; for `before` it is one less.
+// An effect taken so many times: `effect` is the lowest of it taken 1 to `repeats` times, `before` the lowest of it taken 0 to `repeats` - 1
+// times. `steps` is the number of "then" formed for `effect`; for `before` it is one less.
 pub struct Repeated {
     pub before: Effect,
     pub effect: Effect,
