@@ -12,7 +12,7 @@ use borrow.Author.Tests.{ltb-true, ltb-false, lt-ltb}
 use Rattle.words.specs.Lowest.{lowest}
 use Rattle.words.proofs.Lowest.{is-lowest, none-found}
 use Rattle.answer.specs.declared.Answer.{Answer}
-use Rattle.answer.specs.declared.Answer.the-variants.{Pass, TooShort, BadCount, BadLength, BadEntry, BadNode, BadFlow, BadCall, BadCatch, BadOpening, BadSheet, BadBlock, Broken, Overdrawn, Unfit, BadParent, NoCallRow, OutputShort}
+use Rattle.answer.specs.declared.Answer.the-variants.{Pass, TooShort, BadCount, BadLength, BadEntry, BadNode, BadFlow, BadCall, BadCatch, BadOpening, BadSheet, BadBlock, Broken, Overdrawn, Unfit, BadParent, NoCallRow, BadRow, OutputShort}
 use Rattle.answer.specs.Number.{placeOf}
 use Rattle.answer.proofs.Settled.{says-only, says}
 use Rattle.tables.specs.declared.Tables.{Tables}
@@ -60,6 +60,7 @@ module _ (f : List ℕ) where
   about-file (Broken r k) g = absurd g
   about-file (Overdrawn n k l) g = absurd g
   about-file (Unfit n l) g = absurd g
+  about-file BadRow g = absurd g
   about-file OutputShort g = absurd g
 
   -- and turn and place settle it
@@ -81,6 +82,7 @@ module _ (f : List ℕ) where
   found (Broken r k) g = absurd g
   found (Overdrawn n k l) g = absurd g
   found (Unfit n l) g = absurd g
+  found BadRow g = absurd g
   found OutputShort g = absurd g
 
   settled : (a b : Answer) → Given f t a → Given f t b → turnOf a ≡ turnOf b → placeOf a ≡ placeOf b → a ≡ b

@@ -6,7 +6,7 @@ use mathlib.Core.Logic.{_⊎_}
 use mathlib.Core.List.{List}
 use lib.ListN.{length}
 use Rattle.answer.specs.declared.Answer.{Answer}
-use Rattle.answer.specs.declared.Answer.the-variants.{Pass, TooShort, BadCount, BadLength, BadEntry, BadNode, BadFlow, BadCall, BadCatch, BadOpening, BadSheet, BadBlock, Broken, Overdrawn, Unfit, BadParent, NoCallRow, OutputShort}
+use Rattle.answer.specs.declared.Answer.the-variants.{Pass, TooShort, BadCount, BadLength, BadEntry, BadNode, BadFlow, BadCall, BadCatch, BadOpening, BadSheet, BadBlock, Broken, Overdrawn, Unfit, BadParent, NoCallRow, BadRow, OutputShort}
 use Rattle.answer.specs.Number.{placeOf, Says}
 use Rattle.tables.specs.declared.Tables.{Tables}
 use Rattle.tables.specs.Trailer.{tablesOf}
@@ -32,6 +32,7 @@ Given f t (BadBlock w) = ⊥
 Given f t (Broken r k) = ⊥
 Given f t (Overdrawn n k l) = ⊥
 Given f t (Unfit n l) = ⊥
+Given f t BadRow = ⊥
 Given f t OutputShort = ⊥
 Given f t Pass = ⊥
 
@@ -54,6 +55,7 @@ turnOf (BadBlock w) = 0
 turnOf (Broken r k) = 0
 turnOf (Overdrawn n k l) = 0
 turnOf (Unfit n l) = 0
+turnOf BadRow = 0
 turnOf OutputShort = 0
 turnOf Pass = 0
 
