@@ -1,14 +1,22 @@
-// Check: a graph file and a sheet from anybody in, the answer out. Both are only read.
+// Check: a graph file and a sheet from anybody in, the answer out. Both are only read. Of many sheets the answers go into a lent row.
 use answer::Answer;
 use layout::Shape;
 use tables::Tables;
 ghost use mathlib.Core.Path.{_≡_};
+ghost use Prim.Native.Nat.{ℕ, _+_, _*_, _≤_, _<_};
+ghost use lib.ListN.{length, set};
 ghost use Rattle.words.specs.Lowest.{lowest};
+ghost use Rattle.answer.specs.declared.Answer.the-variants.{Pass};
+ghost use Rattle.answer.specs.Number.{numberOf, placeOf};
+ghost use Rattle.tables.specs.Trailer.{tablesOf};
+ghost use Rattle.graph.specs.Judge.{judgeOf};
 ghost use Rattle.rows.specs.Rows.{Sorted};
 ghost use Rattle.nodes.specs.Program.{Safe};
-ghost use Rattle.layout.specs.Layout.{Within};
+ghost use Rattle.layout.specs.Layout.{Within, sheetBytes};
+ghost use Rattle.rules.specs.Sheet.{shape};
 ghost use Rattle.permit.specs.Check.{uncoveredAt, verdictOf, judgedSheet, wholeSheet, checkOf};
 ghost use Rattle.permit.specs.Meaning.{Checks};
+ghost use Rattle.permit.specs.Many.{Counts, Told, ChecksMany, SafeRow};
 
 // Node n is a draw, the sheet calls it reached, and its stock there does not cover it. Judged before the node's own step.
 fn uncovered(f: &[u8], t: Tables, x: Shape, s: &[u8], n: u16) -> bool
@@ -93,4 +101,79 @@ pub fn check(f: &[u8], s: &[u8]) -> Answer
         return of_judged(f, t, x, s);
     }
     a
+}
+
+// How many sheets so many bytes are, where the row has two numbers for each; 0 where they are not 1 to 20 whole ones.
+fn count_of(x: Shape, bytes: usize, numbers: usize) -> usize
+    requires { ⌜ Within x ⌝ }
+    ensures some { λ r. ⌜ (0 < r → Counts (sheetBytes x) bytes numbers r) ⌝ }
+    ensures none { λ r. ⌜ (r ≡ 0 → (k : ℕ) → Counts (sheetBytes x) bytes numbers k → ⊥) ⌝ }
+{
+    let count = numbers / 2;
+    if 20 < count {
+        return 0;
+    }
+    if numbers != 2 * count {
+        return 0;
+    }
+    if bytes != count * layout::sheet_bytes(x) {
+        return 0;
+    }
+    count
+}
+
+// What was answered for sheet i is put into the row: its number, and behind it its place.
+fn put_answer(row: &mut [u32], i: usize, a: Answer)
+    requires { ⌜ 2 * i + 2 ≤ length (now row) ⌝ }
+    ensures { λ _. ⌜ now (row .exit) ≡ set (set (now (row .entry)) (2 * i) (numberOf a)) (2 * i + 1) (placeOf a) ⌝ }
+{
+    let number = 2 * i;
+    let place = number + 1;
+    row[number] = answer::number(a) as u32;
+    row[place] = answer::place(a);
+}
+
+// The sheets of a file that passes are checked in turn.
+fn fill_row(f: &[u8], t: Tables, x: Shape, sheets: &[u8], count: usize, row: &mut [u32])
+    requires { ⌜ (judgeOf (now f) ≡ Pass) × (t ≡ tablesOf (now f)) × (x ≡ shape (now f)) × Counts (sheetBytes x) (length (now sheets)) (length (now row)) count ⌝ }
+    ensures { λ _. ⌜ Told (now (f .entry)) (now (sheets .entry)) (now (row .entry)) (now (row .exit)) count ⌝ }
+{
+    let size = layout::sheet_bytes(x);
+    let mut i = 0;
+    while i < count {
+        let start = i * size;
+        let end = start + size;
+        let a = of_judged(f, t, x, &sheets[start..end]);
+        put_answer(row, i, a);
+        i += 1;
+    }
+}
+
+// The sheets and the row, for a file that passes.
+fn many_of_passed(f: &[u8], t: Tables, x: Shape, sheets: &[u8], row: &mut [u32]) -> Answer
+    requires { ⌜ (judgeOf (now f) ≡ Pass) × (t ≡ tablesOf (now f)) × (x ≡ shape (now f)) ⌝ }
+    ensures { λ r. ⌜ ChecksMany (now (f .entry)) (now (sheets .entry)) (now (row .entry)) (now (row .exit)) r ⌝ }
+{
+    let count = count_of(x, sheets.len(), row.len());
+    if count == 0 {
+        return Answer::BadRow;
+    }
+    fill_row(f, t, x, sheets, count, row);
+    Answer::Pass
+}
+
+// The graph file f is judged once, and then each of the sheets that stand end to end. The row gets two numbers for each: the number and
+// the place that `check` answers for that sheet alone. A refusal leaves the row as it was.
+pub fn check_many(f: &[u8], sheets: &[u8], row: &mut [u32]) -> Answer
+    ensures means { λ r. ⌜ ChecksMany (now (f .entry)) (now (sheets .entry)) (now (row .entry)) (now (row .exit)) r ⌝ }
+    ensures safe { λ r. ⌜ SafeRow (now (f .entry)) (now (row .exit)) r ⌝ }
+{
+    let found = graph::judged(f);
+    let refusal = found.answer;
+    if answer::number(refusal) == 0 {
+        let t = found.tables;
+        let x = found.shape;
+        return many_of_passed(f, t, x, sheets, row);
+    }
+    refusal
 }
