@@ -1,13 +1,14 @@
--- No second number, and no second content of the sheet or the output, fits.
+-- No second number, and no second content of the sheet, the row or the output, fits.
 use Prim.Native.Nat.{ℕ}
 use mathlib.Core.Path.{_≡_, sym, ap, _∙_}
 use mathlib.Core.List.{List}
 use Rattle.answer.specs.Number.{packedOf}
 use Rattle.profile.proofs.Breaks as profile
 use Rattle.permit.proofs.Meaning as check
+use Rattle.permit.proofs.Many.{only-many}
 use Rattle.work.proofs.Only as work
 use Rattle.listed.proofs.Only as listed
-use Rattle.loader.specs.Reply.{WorkedOut, Checked, OneShot, Session, ListedOut}
+use Rattle.loader.specs.Reply.{WorkedOut, Checked, CheckedMany, OneShot, Session, ListedOut}
 
 pub one-reply : {f s r q : List ℕ} {n m : ℕ} → WorkedOut f s r n → WorkedOut f s q m → (n ≡ m) × (r ≡ q)
 one-reply {f} {s} {r} {q} a b =
@@ -16,6 +17,11 @@ one-reply {f} {s} {r} {q} a b =
 
 pub one-answer : {f s : List ℕ} {n m : ℕ} → Checked f s n → Checked f s m → n ≡ m
 one-answer {f} {s} a b = a .packed ∙ ap packedOf (check.only f s (a .checks) ∙ sym (check.only f s (b .checks))) ∙ sym (b .packed)
+
+pub one-row : {f s w r q : List ℕ} {n m : ℕ} → CheckedMany f s w r n → CheckedMany f s w q m → (n ≡ m) × (r ≡ q)
+one-row {f} {s} a b =
+    let same = only-many f s (a .checks) (b .checks) in
+    (a .packed ∙ ap packedOf (same .0) ∙ sym (b .packed), same .1)
 
 pub one-one-shot : {f : List ℕ} {n m : ℕ} → OneShot f n → OneShot f m → n ≡ m
 one-one-shot {f} a b = a .packed ∙ ap packedOf (profile.only f (a .means) (b .means)) ∙ sym (b .packed)

@@ -7,6 +7,7 @@ use Rattle.answer.specs.Number.{packedOf}
 use Rattle.nodes.specs.Program.{Safe}
 use Rattle.profile.specs.Profile.{Profiled, BreaksOneShot, BreaksSession}
 use Rattle.permit.specs.Meaning.{Checks}
+use Rattle.permit.specs.Many.{ChecksMany, SafeRow}
 use Rattle.work.specs.Meaning.{WorksOut}
 use Rattle.listed.specs.Lists.{Lists}
 
@@ -21,6 +22,13 @@ pub record Checked (f s : List ℕ) (n : ℕ) : Type 0 where
   pub answer : Answer
   pub checks : Checks f s answer
   pub safe : Safe f answer
+  pub packed : n ≡ packedOf answer
+
+-- of the check of many sheets: the lent row was w and is r; the number 0 stands in it for no graph that has a run that overdraws
+pub record CheckedMany (f s w r : List ℕ) (n : ℕ) : Type 0 where
+  pub answer : Answer
+  pub checks : ChecksMany f s w r answer
+  pub safe : SafeRow f r answer
   pub packed : n ≡ packedOf answer
 
 -- of one-shot; the number 0 is given for no graph that has a run that overdraws

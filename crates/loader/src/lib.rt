@@ -2,7 +2,7 @@
 ghost use mathlib.Core.Path.{_≡_};
 ghost use Rattle.answer.specs.Number.{packedOf};
 ghost use Rattle.permit.specs.Check.{checkOf};
-ghost use Rattle.loader.specs.Reply.{Checked, WorkedOut, OneShot, Session, ListedOut};
+ghost use Rattle.loader.specs.Reply.{Checked, CheckedMany, WorkedOut, OneShot, Session, ListedOut};
 
 // Work out: the graph file is only read, the sheet is written after the verdicts 0 and 13.
 #[no_mangle]
@@ -19,6 +19,14 @@ pub extern "C" fn snellair_check(f: &[u8], s: &[u8]) -> u64
     ensures means { λ r. ⌜ Checked (now (f .entry)) (now (s .entry)) r ⌝ }
 {
     answer::packed(permit::check(f, s))
+}
+
+// Check of many sheets: the graph file and the sheets are only read, the row is written after the answer 0.
+#[no_mangle]
+pub extern "C" fn snellair_check_many(f: &[u8], sheets: &[u8], row: &mut [u32]) -> u64
+    ensures { λ r. ⌜ CheckedMany (now (f .entry)) (now (sheets .entry)) (now (row .entry)) (now (row .exit)) r ⌝ }
+{
+    answer::packed(permit::check_many(f, sheets, row))
 }
 
 // One-shot: the profile of add-ons that ask right before each use.

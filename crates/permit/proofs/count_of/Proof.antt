@@ -13,9 +13,9 @@ unfolding sheetBytes
 mul-if3 c =
     let a = c .before .before .before in
     let size = c .sheet-bytes .result in
-    let few : a .args .numbers / 2 ≤ 20 = c .before .before .if1 .left in
+    let few : a .args .numbers / 2 ≤ 100 = omega (arith, c .before .before .if1 .left) in
     let small : size ≤ 56064 = omega (arith, c .sheet-bytes .ensures, sheet-le (a .pre)) in
-    let most : a .args .numbers / 2 * size ≤ 20 * 56064 = mul-le-mul {n₂ = 20} {m₂ = 56064} few small in
+    let most : a .args .numbers / 2 * size ≤ 100 * 56064 = mul-le-mul {n₂ = 100} {m₂ = 56064} few small in
     omega arith
 
 returns-3 : tie.Need-returns-3
