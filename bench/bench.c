@@ -21,17 +21,42 @@ enum operation {
     PEER_ONE_SHOT,
     SNELLAIR_SESSION,
     PEER_SESSION,
+    SNELLAIR_MANY,
+    SNELLAIR_ONE_BY_ONE,
+    PEER_ONE_BY_ONE,
+    SNELLAIR_JUDGEMENT,
     OPERATIONS
 };
 
-enum { ROUNDS = 5 };
+enum { ROUNDS = 5, MANY = (int)SNELLAIR_MOST_SHEETS };
 
 static const double shortest = 20000; /* of one measurement, in microseconds */
 
 struct subject {
     uint8_t graph[MOST_GRAPH_BYTES], sheet[MOST_SHEET_BYTES];
+    uint8_t sheets[MANY * MOST_SHEET_BYTES]; /* the sheet, so many times */
     size_t graph_len, sheet_len;
 };
+
+typedef uint64_t check(const uint8_t *graph, size_t graph_len,
+                       const uint8_t *sheet, size_t sheet_len);
+
+/* The answer for the last of the sheets, where all are checked one by one. */
+static uint64_t check_one_by_one(check *check_one, const struct subject *s)
+{
+    uint64_t answer = 0;
+    for (size_t i = 0; i < MANY; i++)
+        answer = check_one(s->graph, s->graph_len, s->sheets + i * s->sheet_len,
+                           s->sheet_len);
+    return answer;
+}
+
+static uint64_t check_many(const struct subject *s)
+{
+    uint32_t row[2 * MANY];
+    return snellair_check_many(s->graph, s->graph_len, s->sheets,
+                               MANY * s->sheet_len, row, 2 * MANY);
+}
 
 static uint64_t operate(enum operation operation, struct subject *s)
 {
@@ -54,8 +79,16 @@ static uint64_t operate(enum operation operation, struct subject *s)
         return peer_one_shot(s->graph, s->graph_len);
     case SNELLAIR_SESSION:
         return snellair_session(s->graph, s->graph_len);
-    default:
+    case PEER_SESSION:
         return peer_session(s->graph, s->graph_len);
+    case SNELLAIR_MANY:
+        return check_many(s);
+    case SNELLAIR_ONE_BY_ONE:
+        return check_one_by_one(snellair_check, s);
+    case PEER_ONE_BY_ONE:
+        return check_one_by_one(peer_check, s);
+    default: /* with no sheet, check does no more than judge the graph */
+        return snellair_check(s->graph, s->graph_len, NULL, 0);
     }
 }
 
@@ -125,14 +158,19 @@ static void measure(struct subject *s, enum operation first,
     }
 }
 
-static void measure_case(const struct bench_case *c, struct subject *s,
-                         enum operation first, enum operation last,
-                         double median[OPERATIONS])
+static void build_case(const struct bench_case *c, struct subject *s)
 {
     static struct draft d;
     c->build(&d);
     s->graph_len = draft_write(&d, s->graph);
     s->sheet_len = sheet_bytes(draft_shape(&d));
+}
+
+static void measure_case(const struct bench_case *c, struct subject *s,
+                         enum operation first, enum operation last,
+                         double median[OPERATIONS])
+{
+    build_case(c, s);
     expect_same_answers(s, first, last, c->name);
     measure(s, first, last, median);
 }
@@ -160,6 +198,29 @@ static void print_pair(const struct bench_case *c, struct subject *s,
     fflush(stdout);
 }
 
+/* Twenty sheets in one call, in twenty calls, and by the peer. The one call must
+ * cost no more than the twenty less nineteen judgements of the graph. */
+static void print_many(const struct bench_case *c, struct subject *s)
+{
+    double us[OPERATIONS];
+    build_case(c, s);
+    operate(WORKLIST, s);
+    for (size_t i = 0; i < MANY; i++)
+        memcpy(s->sheets + i * s->sheet_len, s->sheet, s->sheet_len);
+    if (operate(SNELLAIR_MANY, s) != SNELLAIR_PASS) {
+        printf("%s: refused\n", c->name);
+        exit(1);
+    }
+    expect_same_answers(s, SNELLAIR_ONE_BY_ONE, PEER_ONE_BY_ONE, c->name);
+    measure(s, SNELLAIR_MANY, SNELLAIR_JUDGEMENT, us);
+    double most = us[SNELLAIR_ONE_BY_ONE] - (MANY - 1) * us[SNELLAIR_JUDGEMENT];
+    printf("%-30s | %11.1f %11.1f %9.1f %11.1f %6.2f | %11.1f %6.2f\n", c->name,
+           us[SNELLAIR_MANY], us[SNELLAIR_ONE_BY_ONE], us[SNELLAIR_JUDGEMENT],
+           most, us[SNELLAIR_MANY] / most, us[PEER_ONE_BY_ONE],
+           us[SNELLAIR_MANY] / us[PEER_ONE_BY_ONE]);
+    fflush(stdout);
+}
+
 int main(void)
 {
     static struct subject s;
@@ -172,5 +233,10 @@ int main(void)
            "ratio");
     print_pair(&one_shot_case, &s, SNELLAIR_ONE_SHOT);
     print_pair(&session_case, &s, SNELLAIR_SESSION);
+    printf("\n%-30s | %11s %11s %9s %11s %6s | %11s %6s\n",
+           "microseconds, twenty sheets", "one call", "twenty", "judgement",
+           "at most", "ratio", "peer", "ratio");
+    for (unsigned i = 0; i < BENCH_CASES; i++)
+        print_many(&bench_cases[i], &s);
     return 0;
 }

@@ -5,10 +5,10 @@
  * target/staticlib/libloader.a; docs/FORMAT.md has the layout of graph, sheet
  * and listing.
  *
- * All that is asked of the caller: behind a pointer there are as many bytes as
- * the length after it says, and what is written, the sheet and the output,
- * overlaps nothing else that is lent. With length 0 a pointer is not used, and
- * may be NULL. */
+ * All that is asked of the caller: behind a pointer there are as many bytes, of
+ * the row as many numbers, as the length after it says, and what is written, the
+ * sheet, the row and the output, overlaps nothing else that is lent. With length
+ * 0 a pointer is not used, and may be NULL. */
 #ifndef SNELLAIR_H
 #define SNELLAIR_H
 
@@ -32,6 +32,20 @@ uint64_t snellair_work_out(const uint8_t *graph, size_t graph_len,
  * has no run that overdraws. */
 uint64_t snellair_check(const uint8_t *graph, size_t graph_len,
                         const uint8_t *sheet, size_t sheet_len);
+
+/* Checks many sheets against one graph, which is judged once: 1 to
+ * SNELLAIR_MOST_SHEETS of them end to end, each of the length above. row_len
+ * counts numbers, two for each sheet. Graph and sheets are only read. The answer
+ * SNELLAIR_PASS says that all of the row is written: row[2 * i] is the number
+ * and row[2 * i + 1] the place that snellair_check answers for sheet i alone,
+ * SNELLAIR_PASS, SNELLAIR_BAD_BLOCK, SNELLAIR_BROKEN_RULE or SNELLAIR_OVERDRAWN.
+ * (Type and line have no room there: snellair_check has them.) Where a number is
+ * SNELLAIR_PASS, no run of that graph overdraws. A graph that is refused gets its
+ * refusal; then, other lengths are answered SNELLAIR_BAD_ROW. After any refusal
+ * the row is as it was. */
+uint64_t snellair_check_many(const uint8_t *graph, size_t graph_len,
+                             const uint8_t *sheets, size_t sheets_len,
+                             uint32_t *row, size_t row_len);
 
 /* Works out the sheet of a graph as snellair_work_out does, with the same
  * answer, and writes the listing of what it found: the text that the program
@@ -70,9 +84,10 @@ uint64_t snellair_session(const uint8_t *graph, size_t graph_len);
 #define SNELLAIR_LINE(answer) ((unsigned)((answer) >> 40 & 0xFFFFu))
 
 /* The numbers, and what the place tells. 0 and 13 are verdicts, the others
- * refusals; 11 and 12 come from check only, 14 from the profiles only, 26 from
- * the listing only. The first that applies is given: 26, then 1 to 7, 15, 8,
- * 17, 9, then 10 to 14, and 0 where none does; within a table the lowest row.
+ * refusals; 11 and 12 come from check only, 14 from the profiles only, 24 from
+ * the check of many sheets only, in place of 10, and 26 from the listing only.
+ * The first that applies is given: 26, then 1 to 7, 15, 8, 17, 9, then 24 or 10
+ * to 14, and 0 where none does; within a table the lowest row.
  * 12 and 13 also name a type: 13 that of the draw, 12 the lowest that fails in
  * any place where that rule is broken, or SNELLAIR_MARKS_ALONE when marks are
  * all that is missing. All others have type 0. 5, 13, 14 and 17 also name the
@@ -96,13 +111,15 @@ enum snellair_number {
     SNELLAIR_UNFIT = 14,       /* lowest node that breaks the profile */
     SNELLAIR_BAD_PARENT = 15,  /* lowest kind with a parent not lower or 255 */
     SNELLAIR_NO_CALL_ROW = 17, /* lowest call node that no call row names */
+    SNELLAIR_BAD_ROW = 24,     /* 0: the length of the sheets or of the row */
     SNELLAIR_OUTPUT_SHORT = 26 /* 0: the output's length */
 };
 
 #define SNELLAIR_MARKS_ALONE 6u
 
 /* The limits: most methods, nodes and types; the longest graph file and the
- * longest sheet, in bytes; room for any listing and the 0 behind it. */
+ * longest sheet, in bytes; most sheets in one call; room for any listing and the
+ * 0 behind it. */
 #define SNELLAIR_MOST_METHODS 64u
 #define SNELLAIR_MOST_NODES 512u
 #define SNELLAIR_MOST_TYPES 6u
@@ -111,6 +128,7 @@ enum snellair_number {
     SNELLAIR_SHEET_BYTES(SNELLAIR_MOST_METHODS, SNELLAIR_MOST_NODES, \
                          SNELLAIR_MOST_TYPES)
 
+#define SNELLAIR_MOST_SHEETS 20u
 #define SNELLAIR_LISTING_ROOM 46103u
 
 /* The bytes of the sheet of a graph with so many methods, nodes and types:

@@ -1,9 +1,9 @@
 /* Lends the C face memory with nothing around it. Each graph file named as an
  * argument is judged by both profiles and worked out, and what comes out is
- * checked, at the start and at the end of pages between two that can't be
- * touched; what is only read can't be written. A byte read or written beside
- * those lent, or through a pointer that comes with length 0, ends the program
- * by a signal. */
+ * checked, alone and as the only one of many, at the start and at the end of
+ * pages between two that can't be touched; what is only read can't be written. A
+ * byte read or written beside those lent, or through a pointer that comes with
+ * length 0, ends the program by a signal. */
 #define _DEFAULT_SOURCE
 #include "snellair.h"
 
@@ -86,15 +86,41 @@ static void expect_profiled(uint64_t answer, uint64_t refused, const char *name)
         expect(answer == refused, name, "a profile does not refuse the graph");
 }
 
+/* The sheet as the only one of many, with a row of just two numbers, and with
+ * one of another length, which can't be touched. */
+static void try_many(const char *name, const uint8_t *graph, size_t length,
+                     const uint8_t *sheet, size_t sheet_size, uint64_t verdict,
+                     struct area area, int at_end)
+{
+    uint32_t *row = (uint32_t *)(void *)place(area, 2 * sizeof *row, at_end);
+    permit(area, PROT_READ | PROT_WRITE);
+    expect(snellair_check_many(graph, length, sheet, sheet_size, row, 2) ==
+                   SNELLAIR_PASS &&
+               row[0] == SNELLAIR_NUMBER(verdict) &&
+               row[1] == SNELLAIR_PLACE(verdict),
+           name, "the row does not say what check answers");
+    permit(area, PROT_NONE);
+    expect(snellair_check_many(graph, length, sheet, sheet_size, row, 1) ==
+                   SNELLAIR_BAD_ROW &&
+               snellair_check_many(graph, length, sheet, sheet_size - 1, row,
+                                   2) == SNELLAIR_BAD_ROW,
+           name, "a row or a sheet of another length is not answered 24");
+}
+
 /* A graph where it can only be read: first with no sheet, then with its own. */
 static void try_graph(const char *name, const uint8_t *graph, size_t length,
-                      struct area area, int at_end)
+                      struct area area, struct area rows, int at_end)
 {
     uint64_t refused = snellair_work_out(graph, length, NULL, 0);
     expect(snellair_check(graph, length, NULL, 0) == refused, name,
            "no sheet, and the two answer otherwise");
     expect_profiled(snellair_one_shot(graph, length), refused, name);
     expect_profiled(snellair_session(graph, length), refused, name);
+    expect(snellair_check_many(graph, length, NULL, 0, NULL, 0) ==
+               (SNELLAIR_NUMBER(refused) == SNELLAIR_BAD_SHEET
+                    ? (uint64_t)SNELLAIR_BAD_ROW
+                    : refused),
+           name, "no sheet of many, and it is answered otherwise");
     if (SNELLAIR_NUMBER(refused) != SNELLAIR_BAD_SHEET) {
         expect(refuses_graph(SNELLAIR_NUMBER(refused)), name,
                "a verdict with no sheet");
@@ -107,6 +133,7 @@ static void try_graph(const char *name, const uint8_t *graph, size_t length,
     permit(area, PROT_READ);
     expect(snellair_check(graph, length, sheet, sheet_size) == verdict, name,
            "check does not answer as work out did");
+    try_many(name, graph, length, sheet, sheet_size, verdict, rows, at_end);
 }
 
 /* Reads a graph file to where it is lent, and keeps it from being written. */
@@ -129,11 +156,12 @@ int main(int argc, char **argv)
 {
     struct area graphs = make_area(SNELLAIR_LONGEST_GRAPH);
     struct area sheets = make_area(SNELLAIR_LONGEST_SHEET);
+    struct area rows = make_area(2 * sizeof(uint32_t));
     for (int i = 1; i < argc; i++)
         for (int at_end = 0; at_end < 2; at_end++) {
             size_t length;
             uint8_t *graph = read_graph(argv[i], graphs, at_end, &length);
-            try_graph(argv[i], graph, length, sheets, at_end);
+            try_graph(argv[i], graph, length, sheets, rows, at_end);
         }
 
     /* Nothing at all: NULL, and a pointer to what can't be touched. */
@@ -141,6 +169,8 @@ int main(int argc, char **argv)
     expect(snellair_work_out(NULL, 0, NULL, 0) == SNELLAIR_TOO_SHORT &&
                snellair_check(NULL, 0, NULL, 0) == SNELLAIR_TOO_SHORT &&
                snellair_check(graphs.start, 0, graphs.start, 0) ==
+                   SNELLAIR_TOO_SHORT &&
+               snellair_check_many(NULL, 0, NULL, 0, NULL, 0) ==
                    SNELLAIR_TOO_SHORT &&
                snellair_one_shot(NULL, 0) == SNELLAIR_TOO_SHORT &&
                snellair_session(NULL, 0) == SNELLAIR_TOO_SHORT,
