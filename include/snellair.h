@@ -5,10 +5,10 @@
  * target/staticlib/libloader.a; docs/FORMAT.md has the layout of graph, sheet
  * and listing.
  *
- * All that is asked of the caller: behind a pointer there are as many bytes, of
- * the row as many numbers, as the length after it says, and what is written, the
- * sheet, the row and the output, overlaps nothing else that is lent. With length
- * 0 a pointer is not used, and may be NULL. */
+ * All that is asked of the caller: behind a pointer there are as many bytes,
+ * of the row as many numbers, as the length after it says, and what is written,
+ * the sheet, the row and the output, overlaps nothing else that is lent. With
+ * length 0 a pointer is not used, and may be NULL. */
 #ifndef SNELLAIR_H
 #define SNELLAIR_H
 
@@ -35,14 +35,14 @@ uint64_t snellair_check(const uint8_t *graph, size_t graph_len,
 
 /* Checks many sheets against one graph, which is judged once: 1 to
  * SNELLAIR_MOST_SHEETS of them end to end, each of the length above. row_len
- * counts numbers, two for each sheet. Graph and sheets are only read. The answer
+ * counts numbers, two for each sheet. Graph and sheets are only read.
  * SNELLAIR_PASS says that all of the row is written: row[2 * i] is the number
- * and row[2 * i + 1] the place that snellair_check answers for sheet i alone,
- * SNELLAIR_PASS, SNELLAIR_BAD_BLOCK, SNELLAIR_BROKEN_RULE or SNELLAIR_OVERDRAWN.
- * (Type and line have no room there: snellair_check has them.) Where a number is
- * SNELLAIR_PASS, no run of that graph overdraws. A graph that is refused gets its
- * refusal; then, other lengths are answered SNELLAIR_BAD_ROW. After any refusal
- * the row is as it was. */
+ * and row[2 * i + 1] the place that snellair_check answers for sheet i alone:
+ * SNELLAIR_PASS, SNELLAIR_BAD_BLOCK, SNELLAIR_BROKEN_RULE or
+ * SNELLAIR_OVERDRAWN. (Type and line have no room there.) Where a number in it
+ * is SNELLAIR_PASS, no run of that graph overdraws. A graph that is refused
+ * gets its refusal; else any other lengths are answered SNELLAIR_BAD_ROW. After
+ * a refusal the row is as it was. */
 uint64_t snellair_check_many(const uint8_t *graph, size_t graph_len,
                              const uint8_t *sheets, size_t sheets_len,
                              uint32_t *row, size_t row_len);
@@ -118,8 +118,8 @@ enum snellair_number {
 #define SNELLAIR_MARKS_ALONE 6u
 
 /* The limits: most methods, nodes and types; the longest graph file and the
- * longest sheet, in bytes; most sheets in one call; room for any listing and the
- * 0 behind it. */
+ * longest sheet, in bytes; most sheets in one call; room for any listing and
+ * the 0 behind it. */
 #define SNELLAIR_MOST_METHODS 64u
 #define SNELLAIR_MOST_NODES 512u
 #define SNELLAIR_MOST_TYPES 6u

@@ -1,9 +1,9 @@
 /* Checks many sheets in one call, through the C face, and each of them alone.
- * Every argument is a pair of graph and sheet, as the corpus of check has them:
- * the graph's length in two bytes, the graph, the sheet. For each graph, 1 to 20
- * of the sheets that the pairs have for it, and lengths that are wrong. Ends with
- * status 1 where the answer, the row or a number beside the row is not what
- * include/snellair.h says. */
+ * Every argument is a pair of graph and sheet, as the corpus of check has
+ * them: the graph's length in two bytes, the graph, the sheet. For each graph, 1
+ * to 20 of the sheets that the pairs have for it, and lengths that are wrong.
+ * Ends with status 1 where the answer, the row or a number beside the row is not
+ * what include/snellair.h says. */
 #include "snellair.h"
 
 #include <stdio.h>
@@ -69,10 +69,9 @@ static uint64_t check_many(const struct pair *p, size_t bytes, size_t numbers)
 {
     for (size_t i = 0; i < sizeof row / sizeof *row; i++)
         row[i] = guard;
-    uint64_t answer = snellair_check_many(
-        p->graph, p->graph_length, bytes == 0 ? NULL : sheets, bytes,
-        numbers == 0 ? NULL : row + MARGIN, numbers);
-    return answer;
+    return snellair_check_many(p->graph, p->graph_length,
+                               bytes == 0 ? NULL : sheets, bytes,
+                               numbers == 0 ? NULL : row + MARGIN, numbers);
 }
 
 /* No number of the row but the first so many is touched. */
@@ -102,7 +101,8 @@ static void expect_row(const struct pair *p, size_t size, size_t count)
 }
 
 /* Any other lengths are 24, and the row is as it was. */
-static void expect_miscounted(const struct pair *p, size_t bytes, size_t numbers)
+static void expect_miscounted(const struct pair *p, size_t bytes,
+                              size_t numbers)
 {
     expect(check_many(p, bytes, numbers) == SNELLAIR_BAD_ROW, p,
            "not answered 24", bytes);
