@@ -22,7 +22,7 @@ use Rattle.tables.specs.Family.{climb, nearest}
 use Rattle.refuse.specs.Bad.{notAbove, flowRow, callRow, catchRow, countBad, lengthBad, entryBad, nodeBad, flowBad, callBad, parentBad, kin, throwsOther, catchBad, uncalled, openingBad}
 use Rattle.graph.specs.Places.{badNodeAt, noCallRowAt}
 use Rattle.graph.specs.Judge.{refused, judgeRows, judgeIn, judgeOf}
-use Rattle.tables.proofs.SameRows.{SameRows, SameOpening, SameFields, same-counts, same-tables, same-fields, same-opening-count}
+use Rattle.tables.proofs.SameRows.{SameRows, SameOpening, SameFields, same-counts, same-tables, same-fields, same-parents, same-opening-count}
 
 -- two answers with the same number, the same type and the same place
 pub record Agree (a b : Answer) : Type 0 where
@@ -118,12 +118,12 @@ module _ (f g : List ℕ) (A : SameRows f g) (B : SameOpening f g) where
 
   parent-same : (e : ℕ) → parentBad f t e ≡ parentBad g t e
   unfolding parentBad
-  parent-same e = simp (S .parent e)
+  parent-same e = simp (same-parents f g A B e)
 
   climb-same : (p : ℕ → Bool) (k e : ℕ) → climb f t p k e ≡ climb g t p k e
   unfolding climb
   climb-same p zero e = refl
-  climb-same p (suc k) e = simp (S .parent e, climb-same p k (parentOf g t e))
+  climb-same p (suc k) e = simp (same-parents f g A B e, climb-same p k (parentOf g t e))
 
   kin-same : (e c : ℕ) → kin f t e c ≡ kin g t e c
   unfolding kin nearest
@@ -152,7 +152,7 @@ module _ (f g : List ℕ) (A : SameRows f g) (B : SameOpening f g) where
 
   opening-same : (k : ℕ) → k < t .types → openingBad f t k ≡ openingBad g t k
   unfolding openingBad
-  opening-same k l = simp (same-opening-count f g A B k l)
+  opening-same k l = simp (same-opening-count f g A B k)
 
   judged-in : Agree (judgeIn f t) (judgeIn g t)
   unfolding judgeIn judgeRows

@@ -2,6 +2,7 @@
 use Prim.Native.Nat.{ℕ, _≤_, _<_}
 use mathlib.Core.Path.{refl, sym, subst, _∙_}
 use mathlib.Core.List.{List}
+use native.Mathlib.Omega.{arith}
 use Rattle.model.proofs.Alike.{Alike}
 use Rattle.tables.specs.declared.Tables.{Tables}
 use Rattle.tables.specs.Trailer.{tablesOf}
@@ -17,16 +18,18 @@ module _ (f g : List ℕ) (t : Tables) (S : SameFields f g t) where
   has-row r = let k = r .0 in let l = r .1 in (k, l, sym (S .catch-from k l) ∙ r .2, sym (S .catch-exception k l) ∙ r .3)
 
 module _ (f g : List ℕ) (t : Tables) (S : SameFields f g t) where
-  applies : {n e c : ℕ} → Applies f t n e c → Applies g t n e c
-  applies (own h) = own (has-row f g t S h)
-  applies {n} {e} {c} (above h l r) =
-      above (λ w. h (has-row g f t (fields-sym S) w)) (subst (λ x. x < e) (S .parent e) l) (subst (λ x. Applies g t n x c) (S .parent e) (applies r))
+  -- a parent is a lower number, so of one of the eight kinds the whole family is among the eight
+  applies : {n e c : ℕ} → e < 8 → Applies f t n e c → Applies g t n e c
+  applies u (own h) = own (has-row f g t S h)
+  applies {n} {e} {c} u (above h l r) =
+      let p = S .parent e u in
+      above (λ w. h (has-row g f t (fields-sym S) w)) (subst (λ x. x < e) p l) (subst (λ x. Applies g t n x c) p (applies (omega arith) r))
 
   family-row : {a e b : ℕ} → FamilyRow f t a e b → FamilyRow g t a e b
   family-row {a} {e} r =
       let k = r .0 in
       let l = r .1 in
-      (k, l, sym (S .catch-from k l) ∙ r .2, subst (Applies g t a e) (S .catch-exception k l) (applies (r .3)), sym (S .catch-to k l) ∙ r .4)
+      (k, l, sym (S .catch-from k l) ∙ r .2, subst (Applies g t a e) (S .catch-exception k l) (applies (r .5) (r .3)), sym (S .catch-to k l) ∙ r .4, r .5)
 
 module _ (f g : List ℕ) (t : Tables) (S : SameFields f g t) where
   of-kind : (x n : ℕ) → OfKind f t x n → OfKind g t x n

@@ -39,4 +39,4 @@ module _ (f : List ℕ) (t : Tables) (j : Judged f t) (n e : ℕ) (small : e < 8
   uncaught-false h =
       let k = catchesOf f t n e .from in
       let r = of-catches k (omega arith, leb-false _ _ h) in
-      (catchTo f t k, (k, r .0, r .1, r .2, refl))
+      (catchTo f t k, (k, r .0, r .1, r .2, refl, small))

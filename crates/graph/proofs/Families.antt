@@ -24,7 +24,7 @@ module _ (f : List ℕ) (t : Tables) (n e : ℕ) (small : e < 8) (none : parentO
   pub alone : (b : ℕ) → graphIn f t .Catch n e b ↔ CatchRow f t n e b
   alone b = (
     λ w. (w .0, w .1, w .2, only-own (w .3), w .4),
-    λ w. (w .0, w .1, w .2, subst (Applies f t n e) (sym (w .3)) (own (w .0, w .1, w .2, w .3)), w .4),
+    λ w. (w .0, w .1, w .2, subst (Applies f t n e) (sym (w .3)) (own (w .0, w .1, w .2, w .3)), w .4, small),
   )
 
   -- on a throw a row names its kind and no other

@@ -13,7 +13,6 @@ use Rattle.answer.specs.declared.Answer.{Answer}
 use Rattle.answer.specs.declared.Answer.the-variants.{TooShort, BadCount, BadLength}
 use Rattle.answer.specs.Number.{numberOf}
 use Rattle.tables.specs.Trailer.{trailerAt, tablesOf}
-use Rattle.tables.specs.Fields.{parentOf}
 use Rattle.tables.proofs.SameRows.{Read, of-methods, of-node, of-rows, of-trailer, SameRows, SameOpening}
 use Rattle.refuse.specs.Bad.{countBad, lengthBad}
 use Rattle.refuse.proofs.Fit.{length-fit}
@@ -48,13 +47,8 @@ module _ {f g : List ℕ} (A : SameButLines f g) where
   unread p (of-trailer c) (n, k, a, b) = omega (arith, whole f (A .past-length))
 
   pub same-rows : SameRows f g
-  unfolding tablesOf parentOf
-  same-rows = record {
-    one-length = A .one-length;
-    same-bytes = λ p r. A .same-bytes p (unread p r);
-    same-parents = λ e. A .same-bytes _ (λ o. behind _ (omega arith) o);
-  }
+  same-rows = record { one-length = A .one-length; same-bytes = λ p r. A .same-bytes p (unread p r) }
 
   pub same-opening : SameOpening f g
   unfolding tablesOf
-  same-opening p a b = A .same-bytes p (λ o. behind p (omega arith) o)
+  same-opening p a = A .same-bytes p (λ o. behind p (omega arith) o)

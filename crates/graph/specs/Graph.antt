@@ -19,9 +19,9 @@ CallRow f t c m = (k : ℕ) × (k < t .calls) × (callNode f t k ≡ c) × (call
 abbrev pub CatchRow : List ℕ → Tables → ℕ → ℕ → ℕ → Type 0
 CatchRow f t a e b = (k : ℕ) × (k < t .catches) × (catchFrom f t k ≡ a) × (catchException f t k ≡ e) × (catchTo f t k ≡ b)
 
--- some row of the catches applies to the exception e at the node a, and leads to b
+-- some row of the catches applies to the exception e, one of the eight, at the node a, and leads to b
 abbrev pub FamilyRow : List ℕ → Tables → ℕ → ℕ → ℕ → Type 0
-FamilyRow f t a e b = (k : ℕ) × (k < t .catches) × (catchFrom f t k ≡ a) × Applies f t a e (catchException f t k) × (catchTo f t k ≡ b)
+FamilyRow f t a e b = (k : ℕ) × (k < t .catches) × (catchFrom f t k ≡ a) × Applies f t a e (catchException f t k) × (catchTo f t k ≡ b) × (e < 8)
 
 -- node n stands in the table and has the kind
 abbrev pub OfKind : List ℕ → Tables → ℕ → ℕ → Type 0

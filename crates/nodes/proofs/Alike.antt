@@ -37,6 +37,6 @@ module _ (f g : List ℕ) (A : SameRows f g) where
   pub same-opening : SameOpening f g → programOf f .opening ≡ programOf g .opening
   unfolding openingIn
   same-opening B =
-      let r = for-type t (openingRights f t) (openingRights g t) (same-opening-rights f g A B) in
-      let c = for-type t (openingCount f t) (openingCount g t) (same-opening-count f g A B) in
+      let r = for-type t (openingRights f t) (openingRights g t) (λ k l. same-opening-rights f g A B k) in
+      let c = for-type t (openingCount f t) (openingCount g t) (λ k l. same-opening-count f g A B k) in
       (λ i. record { rights = six (λ k. r k i); counts = six (λ k. c k i) }) ∙ ap (openingIn g) (same-tables A)

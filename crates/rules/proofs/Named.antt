@@ -106,7 +106,7 @@ module _ (f : List ℕ) (pass : judgeOf f ≡ Pass) (s : List ℕ) where
     caught-in w = (w .0, in-catches f t j n e small (w .0) (w .1) (w .2) (w .3), w .4)
 
     in-caught : (k : ℕ) → In (catchesOf f t n e) k → (catchTo f t k < t .nodes) × graphOf f .Catch n e (catchTo f t k)
-    in-caught k i = let w = of-catches f t j n e small k i in (catch-fit f t k (j .catches k (w .0)) .to, (k, w .0, w .1, w .2, refl))
+    in-caught k i = let w = of-catches f t j n e small k i in (catch-fit f t k (j .catches k (w .0)) .to, (k, w .0, w .1, w .2, refl, small))
 
     not-caught : Uncaught (graphOf f) n e → uncaughtOf f t n e ≡ true
     not-caught u = go (uncaughtOf f t n e) refl

@@ -84,7 +84,7 @@ module _ (f : List ℕ) (pass : judgeOf f ≡ Pass) where
     leaving-brought : {c o : ℕ} {a : Ask} → LeavingAsks f t x c o n e y a → Brought a
     leaving-brought (to-handler k u i) =
         let w = of-catches f t j n e small k i in
-        of-node _ (catchTo f t k) y (catch-fit f t k (j .catches k (w .0)) .to) stands (caught (catchTo f t k) (k, w .0, w .1, w .2, refl))
+        of-node _ (catchTo f t k) y (catch-fit f t k (j .catches k (w .0)) .to) stands (caught (catchTo f t k) (k, w .0, w .1, w .2, refl, small))
     leaving-brought (to-exit u) =
         of-exit _ (nodeMethod f t n) (1 + e) y (method-inside n l) (omega arith) stands
         (subst (λ i. ExitHit S (nodeMethod f t n) i y) (sym (one-add e)) (out (uncaught-true f t j n e small u)))

@@ -2,6 +2,7 @@
 use Prim.Native.Nat.{ℕ, _+_, _*_, _≤_, _<_}
 use mathlib.Core.Path.{_≡_, refl, sym, ap, _∙_}
 use mathlib.Core.List.{List}
+use native.Mathlib.Decide.{decLt}
 use native.Mathlib.Omega.{arith}
 use lib.ListN.{length}
 use Rattle.words.specs.Bytes.{byteAt, wordAt}
@@ -19,11 +20,10 @@ pub data Read (f : List ℕ) (p : ℕ) : Type 0 where
 pub record SameRows (f g : List ℕ) : Type 0 where
   pub one-length : length f ≡ length g
   pub same-bytes : (p : ℕ) → Read f p → byteAt f p ≡ byteAt g p
-  -- a bad node's number may be the kind whose parent is asked for, so this goes past the eight
-  pub same-parents : (e : ℕ) → parentOf f (tablesOf f) e ≡ parentOf g (tablesOf f) e
 
+-- and the same bytes from the opening stock on
 abbrev pub SameOpening : List ℕ → List ℕ → Type 0
-SameOpening f g = (p : ℕ) → tablesOf f .openingat ≤ p → p < tablesOf f .end → byteAt f p ≡ byteAt g p
+SameOpening f g = (p : ℕ) → tablesOf f .openingat ≤ p → byteAt f p ≡ byteAt g p
 
 same-word : (f g : List ℕ) (p : ℕ) → byteAt f p ≡ byteAt g p → byteAt f (p + 1) ≡ byteAt g (p + 1) → wordAt f p ≡ wordAt g p
 unfolding wordAt
@@ -55,11 +55,10 @@ module _ {f g : List ℕ} (A : SameRows f g) where
   rows-sym = record {
     one-length = sym (A .one-length);
     same-bytes = λ p r. sym (A .same-bytes p (read-both r));
-    same-parents = λ e. rw (← same-tables) (sym (A .same-parents e));
   }
 
   pub opening-sym : SameOpening f g → SameOpening g f
-  opening-sym B p a b = sym (B p (rw same-tables a) (rw same-tables b))
+  opening-sym B p a = sym (B p (rw same-tables a))
 
 -- the same fields in each row
 pub record SameFields (f g : List ℕ) (t : Tables) : Type 0 where
@@ -73,7 +72,7 @@ pub record SameFields (f g : List ℕ) (t : Tables) : Type 0 where
   pub flow-to : (k : ℕ) → k < t .flows → flowTo f t k ≡ flowTo g t k
   pub call-node : (k : ℕ) → k < t .calls → callNode f t k ≡ callNode g t k
   pub call-method : (k : ℕ) → k < t .calls → callMethod f t k ≡ callMethod g t k
-  pub parent : (e : ℕ) → parentOf f t e ≡ parentOf g t e
+  pub parent : (e : ℕ) → e < 8 → parentOf f t e ≡ parentOf g t e
   pub catch-from : (k : ℕ) → k < t .catches → catchFrom f t k ≡ catchFrom g t k
   pub catch-exception : (k : ℕ) → k < t .catches → catchException f t k ≡ catchException g t k
   pub catch-to : (k : ℕ) → k < t .catches → catchTo f t k ≡ catchTo g t k
@@ -90,7 +89,7 @@ fields-sym S = record {
   flow-to = λ k l. sym (S .flow-to k l);
   call-node = λ k l. sym (S .call-node k l);
   call-method = λ k l. sym (S .call-method k l);
-  parent = λ e. sym (S .parent e);
+  parent = λ e l. sym (S .parent e l);
   catch-from = λ k l. sym (S .catch-from k l);
   catch-exception = λ k l. sym (S .catch-exception k l);
   catch-to = λ k l. sym (S .catch-to k l);
@@ -104,7 +103,7 @@ module _ (f g : List ℕ) (A : SameRows f g) where
   row-word p a b = same-word f g p (A .same-bytes p (of-rows a (omega arith))) (A .same-bytes (p + 1) (of-rows (omega arith) b))
 
   pub same-fields : SameFields f g (tablesOf f)
-  unfolding tablesOf entryOf nodeMethod nodeKind nodeNumber nodeCount nodeRights flowFrom flowTo callNode callMethod catchFrom catchException catchTo
+  unfolding tablesOf entryOf nodeMethod nodeKind nodeNumber nodeCount nodeRights flowFrom flowTo callNode callMethod parentOf catchFrom catchException catchTo
   same-fields = record {
     entry = λ m l. same-word f g (2 * m) (A .same-bytes _ (of-methods (omega arith))) (A .same-bytes _ (of-methods (omega arith)));
     method = λ n l. node-byte n _ l (omega arith) (omega arith);
@@ -116,21 +115,29 @@ module _ (f g : List ℕ) (A : SameRows f g) where
     flow-to = λ k l. row-word _ (omega arith) (omega arith);
     call-node = λ k l. row-word _ (omega arith) (omega arith);
     call-method = λ k l. row-word _ (omega arith) (omega arith);
-    parent = A .same-parents;
+    parent = λ e l. A .same-bytes _ (of-rows (omega arith) (omega arith));
     catch-from = λ k l. row-word _ (omega arith) (omega arith);
     catch-exception = λ k l. row-word _ (omega arith) (omega arith);
     catch-to = λ k l. row-word _ (omega arith) (omega arith);
   }
 
-  -- and of each type's opening stock
-  module _ (B : SameOpening f g) (k : ℕ) (l : k < tablesOf f .types) where
-    opening-word : (p : ℕ) → tablesOf f .openingat ≤ p → p + 1 < tablesOf f .end → wordAt f p ≡ wordAt g p
-    opening-word p a b = same-word f g p (B p a (omega arith)) (B (p + 1) (omega arith) b)
+  module _ (B : SameOpening f g) where
+    -- a bad node's number may be the kind whose parent is asked for, so this goes past the eight
+    pub same-parents : (e : ℕ) → parentOf f (tablesOf f) e ≡ parentOf g (tablesOf f) e
+    unfolding tablesOf parentOf
+    same-parents e = elim (decLt (tablesOf f .parentsat + e) (tablesOf f .openingat)) [
+      | yes l ↦ A .same-bytes _ (of-rows (omega arith) l)
+      | no l ↦ B _ (omega arith)
+    ]
 
-    pub same-opening-rights : openingRights f (tablesOf f) k ≡ openingRights g (tablesOf f) k
-    unfolding tablesOf openingRights
-    same-opening-rights = opening-word _ (omega arith) (omega arith)
+    -- and of each type's opening stock
+    opening-word : (p : ℕ) → tablesOf f .openingat ≤ p → wordAt f p ≡ wordAt g p
+    opening-word p a = same-word f g p (B p a) (B (p + 1) (omega arith))
 
-    pub same-opening-count : openingCount f (tablesOf f) k ≡ openingCount g (tablesOf f) k
-    unfolding tablesOf openingCount
-    same-opening-count = opening-word _ (omega arith) (omega arith)
+    pub same-opening-rights : (k : ℕ) → openingRights f (tablesOf f) k ≡ openingRights g (tablesOf f) k
+    unfolding openingRights
+    same-opening-rights k = opening-word _ (omega arith)
+
+    pub same-opening-count : (k : ℕ) → openingCount f (tablesOf f) k ≡ openingCount g (tablesOf f) k
+    unfolding openingCount
+    same-opening-count k = opening-word _ (omega arith)
