@@ -14,10 +14,10 @@ use Rattle.layout.proofs.Blocks.{size-pos}
 use Rattle.effect.specs.declared.Stock.{Stock}
 use Rattle.effect.specs.Whole.{normalOf}
 use Rattle.effect.proofs.Six.{all-e}
-use Rattle.sheet.specs.Read.{sheetWord, markAt, stockAt, effectAt}
+use Rattle.sheet.specs.Read.{sheetWord, SameWords, markAt, stockAt, effectAt}
 use Rattle.formed.specs.Ill.{notZero, someWord, countsFit, fits, illBy, illBlock, firstIll}
 use Rattle.formed.proofs.Scan.{some-none, zero-there}
-use Rattle.sheet.proofs.Same.{SameWords, mark-same, stock-same, effect-same}
+use Rattle.sheet.proofs.Same.{mark-same, stock-same, effect-same}
 
 -- the n words from w on are 0
 abbrev pub AllZero : List ℕ → ℕ → ℕ → Type 0

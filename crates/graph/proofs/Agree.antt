@@ -13,7 +13,7 @@ use Rattle.words.specs.Lowest.{lowest}
 use Rattle.words.proofs.Lowest.{lowest-same}
 use Rattle.answer.specs.declared.Answer.{Answer}
 use Rattle.answer.specs.declared.Answer.the-variants.{Pass, TooShort, BadCount, BadLength, BadEntry, BadFlow, BadCall, BadParent, BadCatch, BadOpening}
-use Rattle.answer.specs.Number.{numberOf, typeOf, placeOf, lineOf, Says, SaysAs}
+use Rattle.answer.specs.Number.{numberOf, typeOf, placeOf, lineOf, Says}
 use Rattle.answer.proofs.Unpack.{zero-pass}
 use Rattle.tables.specs.declared.Tables.{Tables}
 use Rattle.tables.specs.Trailer.{tablesOf}

@@ -15,8 +15,8 @@ use Rattle.graph.specs.Judge.{judgeOf}
 use Rattle.nodes.proofs.Setting.{setting}
 use Rattle.layout.specs.Layout.{stockSize, effectSize, methodAt, exitAt, nodeAt, isStock, blockSize, blockAt}
 use Rattle.layout.proofs.Blocks.{size-pos, block-method, block-exit, block-node}
-use Rattle.sheet.specs.Read.{markAt, stockAt, effectAt}
-use Rattle.sheet.proofs.Same.{SameWords, mark-same, stock-same, effect-same}
+use Rattle.sheet.specs.Read.{SameWords, markAt, stockAt, effectAt}
+use Rattle.sheet.proofs.Same.{mark-same, stock-same, effect-same}
 use Rattle.formed.specs.Sheet.{sheetIn}
 use Rattle.lower.proofs.Numbers.{shape, method-stock, node-effect, exit-effect}
 

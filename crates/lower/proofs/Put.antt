@@ -11,7 +11,7 @@ use Rattle.graph.specs.Judge.{judgeOf}
 use Rattle.layout.specs.Layout.{blockCount, blockSize, blockAt}
 use Rattle.words.specs.Write.{splice, bytesOf}
 use Rattle.words.proofs.Splice.{written-length}
-use Rattle.sheet.proofs.Same.{SameWords}
+use Rattle.sheet.specs.Read.{SameWords}
 use Rattle.sheet.proofs.Potential.{block-fits, other-block, sheet-falls}
 use Rattle.formed.specs.Ill.{illBlock}
 use Rattle.formed.proofs.Judged.{ill-same}

@@ -11,8 +11,8 @@ use Rattle.effect.proofs.Fields.{effect-small, stock-small}
 use Rattle.layout.specs.declared.Shape.{Shape}
 use Rattle.layout.specs.Layout.{stockSize, effectSize, isStock, blockSize, blockAt}
 use Rattle.layout.proofs.Blocks.{size-pos}
-use Rattle.sheet.specs.Read.{markAt, stockAt, effectAt, marked}
-use Rattle.sheet.proofs.Same.{SameWords, mark-same, stock-same, effect-same}
+use Rattle.sheet.specs.Read.{SameWords, markAt, stockAt, effectAt, marked}
+use Rattle.sheet.proofs.Same.{mark-same, stock-same, effect-same}
 use Rattle.sheet.proofs.Back.{EffectFits, StockFits}
 use Rattle.sheet.proofs.Marked.{true-mark}
 use Rattle.lower.proofs.Good.{rankOf}

@@ -17,9 +17,9 @@ use Rattle.effect.specs.declared.Stock.{Stock}
 use Rattle.effect.specs.declared.Effect.{Effect}
 use Rattle.effect.specs.Six.{six}
 use Rattle.effect.proofs.Six.{below-six, SixHeld, SixOnes}
-use Rattle.sheet.specs.Read.{sheetWord, markAt, column, stockAt, effectAt}
+use Rattle.sheet.specs.Read.{sheetWord, SameWords, markAt, column, stockAt, effectAt}
 use Rattle.sheet.specs.Write.{stockField, effectField, stockWord, effectWord, stockBytes, effectBytes, blanked}
-use Rattle.sheet.proofs.Same.{SameWords, six-same}
+use Rattle.sheet.proofs.Same.{six-same}
 
 -- the words from o on, apart from the n words written from w on
 pub kept : (s : List ℕ) (w : ℕ) (f : ℕ → ℕ) (n : ℕ) → 2 * (w + n) ≤ length s → (o m : ℕ) → (o + m ≤ w) ⊎ (w + n ≤ o)

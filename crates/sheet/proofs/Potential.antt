@@ -13,8 +13,8 @@ use Rattle.layout.specs.declared.Shape.{Shape}
 use Rattle.layout.specs.Layout.{sheetBytes, blockCount, blockSize, blockAt}
 use Rattle.layout.proofs.Blocks.{apart, inside}
 use Rattle.words.specs.Write.{splice, bytesOf}
-use Rattle.sheet.proofs.Same.{SameWords}
 use Rattle.sheet.proofs.Back.{kept}
+use Rattle.sheet.specs.Read.{SameWords}
 
 unfoldable pub sumTo : (ℕ → ℕ) → ℕ → ℕ
 sumTo f zero = 0

@@ -1,5 +1,5 @@
 -- What is read of a block depends on its words alone.
-use Prim.Native.Nat.{ℕ, _+_, _*_, _≤_, _<_}
+use Prim.Native.Nat.{ℕ, _+_, _*_, _<_}
 use mathlib.Core.Path.{_≡_, refl}
 use mathlib.Core.Bool.{Bool, true, false, cond}
 use mathlib.Core.List.{List, [], _∷_}
@@ -9,11 +9,7 @@ use native.Mathlib.Nat.{le-refl}
 use native.Mathlib.Omega.{arith}
 use Rattle.layout.specs.Layout.{stockSize, effectSize}
 use Rattle.effect.specs.Six.{six}
-use Rattle.sheet.specs.Read.{sheetWord, markAt, column, stockAt, effectAt}
-
--- the n words from w on are the same in two sheets
-abbrev pub SameWords : List ℕ → List ℕ → ℕ → ℕ → Type 0
-SameWords s r w n = (v : ℕ) → w ≤ v → v < w + n → sheetWord s v ≡ sheetWord r v
+use Rattle.sheet.specs.Read.{sheetWord, SameWords, markAt, column, stockAt, effectAt}
 
 pub six-same : {f g : ℕ → ℕ} → ((k : ℕ) → k < 6 → f k ≡ g k) → six f ≡ six g
 six-same h =

@@ -1,5 +1,6 @@
 -- How the blocks of a sheet are read: a stock and an effect of six types, of which the file has t.
-use Prim.Native.Nat.{ℕ, _+_, _*_}
+use Prim.Native.Nat.{ℕ, _+_, _*_, _≤_, _<_}
+use mathlib.Core.Path.{_≡_}
 use mathlib.Core.Bool.{Bool, cond}
 use mathlib.Core.List.{List}
 use lib.Dec.{ltb, eqb}
@@ -11,6 +12,10 @@ use Rattle.effect.specs.Six.{six}
 -- "Words of two bytes": word w of the sheet
 abbrev pub sheetWord : List ℕ → ℕ → ℕ
 sheetWord s w = wordAt s (2 * w)
+
+-- the n words from w on are the same in two sheets
+abbrev pub SameWords : List ℕ → List ℕ → ℕ → ℕ → Type 0
+SameWords s r w n = (v : ℕ) → w ≤ v → v < w + n → sheetWord s v ≡ sheetWord r v
 
 -- the mark of the block whose first word is w
 abbrev pub markAt : List ℕ → ℕ → ℕ

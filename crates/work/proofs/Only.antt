@@ -19,7 +19,7 @@ use Rattle.graph.proofs.Whole.{limits}
 use Rattle.layout.specs.declared.Shape.{Shape}
 use Rattle.layout.specs.Layout.{methodAt, exitAt, nodeAt, sheetBytes, blockCount, blockSize, blockAt}
 use Rattle.layout.proofs.Blocks.{at-method, at-exit, at-node}
-use Rattle.sheet.proofs.Same.{SameWords}
+use Rattle.sheet.specs.Read.{SameWords}
 use Rattle.formed.proofs.Judged.{Formed, formed}
 use Rattle.rules.specs.Sheet.{sheet, WellFormed}
 use Rattle.permit.specs.Check.{checkOf}

@@ -15,9 +15,8 @@ use Rattle.model.specs.Stocks.{permits}
 use Rattle.layout.specs.declared.Shape.{Shape}
 use Rattle.layout.specs.Layout.{stockSize, effectSize, isStock, blockSize, blockAt}
 use Rattle.layout.proofs.Blocks.{stock-size, effect-size}
-use Rattle.sheet.specs.Read.{sheetWord, markAt, stockAt, effectAt}
+use Rattle.sheet.specs.Read.{sheetWord, SameWords, markAt, stockAt, effectAt}
 use Rattle.sheet.specs.Write.{stockField, effectField}
-use Rattle.sheet.proofs.Same.{SameWords}
 use Rattle.sheet.proofs.Back.{stock-word-read, effect-word-read, stock-read, effect-read}
 use Rattle.formed.specs.Ill.{countsFit}
 use Rattle.formed.proofs.Judged.{Formed, counts-le}

@@ -12,8 +12,7 @@ use Rattle.words.proofs.Read.{byte-lt, byte-is}
 use Rattle.layout.specs.declared.Shape.{Shape}
 use Rattle.layout.specs.Layout.{methodAt, nodeAt, sheetWords, sheetBytes, blockCount, blockSize, blockAt}
 use Rattle.layout.proofs.Blocks.{at-method, at-node, next, at-end}
-use Rattle.sheet.specs.Read.{sheetWord}
-use Rattle.sheet.proofs.Same.{SameWords}
+use Rattle.sheet.specs.Read.{sheetWord, SameWords}
 
 -- the block in which a word stands
 pub record Stands (x : Shape) (v b : ℕ) : Type 0 where
