@@ -4,4 +4,5 @@ pub mod Words
 pub mod Same
 pub mod Only
 pub mod Sweeping
+pub mod Settles
 pub mod Alike

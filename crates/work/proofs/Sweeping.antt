@@ -31,14 +31,14 @@ module _ (f : List ℕ) (pass : judgeOf f ≡ Pass) (s : List ℕ) (long : lengt
   abbrev x : Shape
   x = shapeOf t
 
-  swept-good : {r : List ℕ} → Swept f t x (blanked s) r → Good f pass r
+  pub swept-good : {r : List ℕ} → Swept f t x (blanked s) r → Good f pass r
   swept-good unswept = blank-good f pass s long
   swept-good (again backwards h) = sweep-done f pass backwards _ (swept-good h) .good
 
-  sweep-falls : {r : List ℕ} (backwards : Bool) → Swept f t x (blanked s) r → wroteOf (sweepOf f t x backwards r) ≡ true → height x (sheetOf (sweepOf f t x backwards r)) < height x r
+  pub sweep-falls : {r : List ℕ} (backwards : Bool) → Swept f t x (blanked s) r → wroteOf (sweepOf f t x backwards r) ≡ true → height x (sheetOf (sweepOf f t x backwards r)) < height x r
   sweep-falls backwards h e = sweep-done f pass backwards _ (swept-good h) .falls (ap not e)
 
-  settled-worked : {r : List ℕ} → Settled f t x (blanked s) r → Worked f r
+  pub settled-worked : {r : List ℕ} → Settled f t x (blanked s) r → Worked f r
   settled-worked {r} h =
       let g = swept-good (h .swept) in
       worked f r pass (g .long) (g .bytes) (g .whole) (g .attained) (rules-kept f pass r (g .whole) (settled f t x r (h .backwards) (h .content) .1))
