@@ -50,19 +50,19 @@ module _ (f g : List ℕ) (A : SameRows f g) where
     same-method : (n : ℕ) → n < tablesOf f .nodes → graphOf f .method n ≡ graphOf g .method n
     same-method = alike A .same-method
 
-    reached : {n : ℕ} → IsReached f s n → IsReached g s n
+    pub reached : {n : ℕ} → IsReached f s n → IsReached g s n
     reached {n} y = subst (λ X. X) (λ i. same-sheet i .Node n × same-sheet i .Called (same-method n (y .0 .0) i)) y
 
-    covered : {n : ℕ} → n < tablesOf f .nodes → IsCovered f s n → IsCovered g s n
+    pub covered : {n : ℕ} → n < tablesOf f .nodes → IsCovered f s n → IsCovered g s n
     covered {n} l = subst (λ X. X) (λ i. Covered (same-does f g A n i) (permits .apply (same-sheet i .node n) (same-sheet i .stock (same-method n l i))))
+
+    -- for any opening stock with which g passes
+    pub well-formed : judgeOf g ≡ Pass → WellFormed f s → WellFormed g s
+    well-formed p w = (p, subst (λ x. length s ≡ sheetBytes x) same-shape (w .1), subst (λ x. (b : ℕ) → b < blockCount x → illBlock s x b ≡ false) same-shape (w .2))
 
     module _ (B : SameOpening f g) where
       pub well : WellFormed f s → WellFormed g s
-      well w = (
-        pass-alike f g A B (w .0),
-        subst (λ x. length s ≡ sheetBytes x) same-shape (w .1),
-        subst (λ x. (b : ℕ) → b < blockCount x → illBlock s x b ≡ false) same-shape (w .2),
-      )
+      well w = well-formed (pass-alike f g A B (w .0)) w
 
       pub holds : {r : ℕ} → Holds f s r → Holds g s r
       holds {r} h =
