@@ -11,3 +11,4 @@ pub mod Example
 pub mod Open
 pub mod OneShot
 pub mod Alike
+pub mod Opening
