@@ -2,6 +2,7 @@
 #ifndef PEER_ANSWER_H
 #define PEER_ANSWER_H
 
+#include <stdbool.h>
 #include <stdint.h>
 
 static inline uint64_t packed(unsigned number, unsigned place)
@@ -40,6 +41,11 @@ static inline unsigned place_in(uint64_t answer)
 static inline unsigned line_in(uint64_t answer)
 {
     return (unsigned)(answer >> 40 & 0xFFFF);
+}
+
+static inline bool is_verdict(uint64_t answer)
+{
+    return answer == 0 || number_in(answer) == 13;
 }
 
 static inline uint64_t without_line(uint64_t answer)

@@ -1,8 +1,9 @@
 /* Compares Snellair with the peer on generated cases: packed answers and all
  * bytes lent. Takes a seed and a number of cases; ends with status 1 at the
- * first difference, or if too few graphs came to a verdict. */
+ * first difference, or if the cases say too little. */
 #include "answer.h"
 #include "generate.h"
+#include "opening.h"
 #include "peer.h"
 #include "snellair.h"
 #include "tally.h"
@@ -17,6 +18,7 @@ enum { MARGIN = 64, ROOM = MOST_SHEET_BYTES + MOST_ADDED + 2 * MARGIN };
 /* The sheets stand between margins that nobody may write. */
 struct one_case {
     uint64_t seed, number;
+    uint64_t answer; /* the last that work out gave */
     struct draft draft;
     size_t graph_len, sheet_len;
     uint8_t graph[MOST_GRAPH_BYTES + MOST_ADDED];
@@ -27,7 +29,8 @@ struct one_case {
 /* What came of each comparison. */
 struct tallies {
     struct tally wrong_length, work_out, check, one_shot, session, fitting;
-    struct tally damaged, lines;
+    struct tally damaged, lines, opening;
+    struct openings openings;
 };
 
 /* Both sides are lent the same bytes. */
@@ -92,6 +95,7 @@ static bool compare_work_out(struct one_case *c, size_t sheet_len,
                                   sheet_len);
     uint64_t theirs = snellair_work_out(c->graph, c->graph_len,
                                         c->theirs + MARGIN, sheet_len);
+    c->answer = ours;
     tally_note(tally, ours);
     return agree(c, "work out", ours, theirs);
 }
@@ -245,6 +249,25 @@ static bool compare_lines(struct random *r, struct one_case *c,
     return true;
 }
 
+/* The same file with another opening stock, one change a case: work out takes
+ * the longest here. What was worked out before is given. */
+static bool compare_opening(struct random *r, struct one_case *c,
+                            struct worked one, struct tallies *tallies)
+{
+    enum opening_change change = c->number % OPENING_CHANGES;
+    if (!is_verdict(one.answer))
+        return true;
+    struct shape s = shape_of(c->graph, c->graph_len);
+    unsigned type = generate_opening(r, change, c->graph, c->graph_len);
+    memcpy(c->graph_before, c->graph, c->graph_len);
+    if (!compare_work_out(c, sheet_bytes(s), &tallies->opening))
+        return false;
+    struct worked other = {c->answer, c->theirs + MARGIN};
+    const char *fault =
+        opening_fault(s, change, type, one, other, &tallies->openings);
+    return fault == NULL || blame(c, "another opening stock", fault);
+}
+
 static bool compare_case(struct one_case *c, struct tallies *tallies)
 {
     struct random r = random_of(c->seed, c->number);
@@ -256,7 +279,8 @@ static bool compare_case(struct one_case *c, struct tallies *tallies)
                           &tallies->wrong_length)
         || !compare_work_out(c, right, &tallies->work_out))
         return false;
-    memcpy(worked, c->ours + MARGIN, right);
+    memcpy(worked, c->theirs + MARGIN, right);
+    struct worked one = {c->answer, worked};
     for (unsigned i = 0; i < 2 * SHEET_KINDS; i++) {
         size_t length = generate_sheet(&r, i % SHEET_KINDS, &c->draft, worked,
                                        c->ours + MARGIN);
@@ -266,8 +290,33 @@ static bool compare_case(struct one_case *c, struct tallies *tallies)
     work_out_for_other_opening(&r, c);
     return compare_check(c, right, &tallies->check)
         && compare_lines(&r, c, right, &tallies->lines)
-        && compare_profiles(c, tallies) && compare_fitting(&r, c, tallies)
-        && compare_damaged(&r, c, tallies);
+        && compare_profiles(c, tallies)
+        && compare_opening(&r, c, one, tallies)
+        && compare_fitting(&r, c, tallies) && compare_damaged(&r, c, tallies);
+}
+
+static void print_tallies(const struct tallies *t)
+{
+    tally_print("work out, wrong length", &t->wrong_length);
+    tally_print("work out", &t->work_out);
+    tally_print("check", &t->check);
+    tally_print("one-shot", &t->one_shot);
+    tally_print("session", &t->session);
+    tally_print("damaged files", &t->damaged);
+    tally_print("work out where one-shot fits", &t->fitting);
+    tally_print("other lines", &t->lines);
+    tally_print("work out with another opening stock", &t->opening);
+    openings_print(&t->openings);
+}
+
+/* Why the cases say too little, or NULL. */
+static const char *lack(const struct tallies *t, uint64_t cases)
+{
+    if (2 * tally_verdicts(&t->work_out) < cases)
+        return "fewer than half of the graphs came to a verdict";
+    if (!openings_suffice(&t->openings))
+        return "too few opening stocks made a difference";
+    return NULL;
 }
 
 int main(int argc, char **argv)
@@ -286,18 +335,10 @@ int main(int argc, char **argv)
                    c.number);
             return 1;
         }
-    tally_print("work out, wrong length", &tallies.wrong_length);
-    tally_print("work out", &tallies.work_out);
-    tally_print("check", &tallies.check);
-    tally_print("one-shot", &tallies.one_shot);
-    tally_print("session", &tallies.session);
-    tally_print("damaged files", &tallies.damaged);
-    tally_print("work out where one-shot fits", &tallies.fitting);
-    tally_print("other lines", &tallies.lines);
+    print_tallies(&tallies);
     printf("%" PRIu64 " cases, no difference\n", cases);
-    if (2 * tally_verdicts(&tallies.work_out) < cases) {
-        printf("fewer than half of the graphs came to a verdict\n");
-        return 1;
-    }
-    return 0;
+    const char *lacks = lack(&tallies, cases);
+    if (lacks != NULL)
+        printf("%s\n", lacks);
+    return lacks == NULL ? 0 : 1;
 }

@@ -302,6 +302,52 @@ void generate_lines(struct random *r, uint8_t *graph, size_t length)
         write_word(row + 6, random_line(r));
 }
 
+/* ---- Opening stocks ---- */
+
+/* Not at all, all the way, by one, or anything between. */
+static unsigned random_step(struct random *r, unsigned room)
+{
+    switch (random_below(r, 4)) {
+    case 0:
+        return 0;
+    case 1:
+        return room;
+    case 2:
+        return smaller(room, 1);
+    default:
+        return random_below(r, room + 1);
+    }
+}
+
+static void change_opening(struct random *r, uint8_t *row, bool more_rights,
+                           bool larger_count)
+{
+    unsigned rights = read_word(row), count = read_word(row + 2);
+    unsigned bits = one_in(r, 3) ? 0 : random_rights(r, one_in(r, 2));
+    unsigned step = random_step(r, larger_count ? ENDLESS - count : count);
+    write_word(row, more_rights ? rights | bits : rights & ~bits);
+    write_word(row + 2, larger_count ? count + step : count - step);
+}
+
+unsigned generate_opening(struct random *r, enum opening_change change,
+                          uint8_t *graph, size_t length)
+{
+    unsigned types = shape_of(graph, length).types;
+    unsigned type = random_below(r, types);
+    uint8_t *rows = graph + length - TRAILER_BYTES - row_bytes[OPENING] * types;
+    if (change == SOME_RAISED) {
+        bool all = one_in(r, 2);
+        for (unsigned t = 0; t < types; t++)
+            if (all || one_in(r, 2))
+                change_opening(r, rows + row_bytes[OPENING] * t, true, true);
+        return type;
+    }
+    bool up = change == ONE_MIXED ? one_in(r, 2) : change == ONE_RAISED;
+    change_opening(r, rows + row_bytes[OPENING] * type, up,
+                   change == ONE_MIXED ? !up : up);
+    return type;
+}
+
 /* ---- Profiles ---- */
 
 static void make(struct draft_node *node, enum kind kind)

@@ -39,6 +39,20 @@ void generate_session(struct random *r, struct draft *d);
 /* Gives every node of a file any line. The file is not answered 1 to 3. */
 void generate_lines(struct random *r, uint8_t *graph, size_t length);
 
+/* What becomes of the opening stock. */
+enum opening_change {
+    SOME_RAISED, /* all types, or some */
+    ONE_RAISED,
+    ONE_LOWERED,
+    ONE_MIXED,   /* rights up and count down, or the other way round */
+    OPENING_CHANGES
+};
+
+/* Changes the opening stock in a file with a verdict, in rights, counts or
+ * both; what has no room stays. Answers the type, of a change to one. */
+unsigned generate_opening(struct random *r, enum opening_change change,
+                          uint8_t *graph, size_t length);
+
 /* Changes one field that a profile looks at; the graph stays well formed. */
 void generate_profile_change(struct random *r, struct draft *d);
 

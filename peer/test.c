@@ -1,10 +1,12 @@
 /* Tests the peer alone: effects against their meaning, document 01's figures,
  * families of exceptions, profiles, one engine against the other, check against
- * work out and against the rules word by word, and the worked-out sheet against
- * runs. Ends with status 1 at the first thing that fails. */
+ * work out and against the rules word by word, lines, opening stocks, and the
+ * worked-out sheet against runs. Ends with status 1 at the first thing that
+ * fails. */
 #include "answer.h"
 #include "effect.h"
 #include "generate.h"
+#include "opening.h"
 #include "peer.h"
 #include "rules.h"
 #include "runs.h"
@@ -26,11 +28,6 @@ static void expect(bool holds, const char *what, uint64_t number)
         return;
     printf("failed: %s (%" PRIu64 ")\n", what, number);
     exit(1);
-}
-
-static bool is_verdict(uint64_t answer)
-{
-    return answer == 0 || number_in(answer) == 13;
 }
 
 /* ---- Effects ---- */
@@ -1129,6 +1126,43 @@ static void test_lines(unsigned cases, struct draft *d, uint8_t *sheet)
     tally_print("pairs with other lines", &seen);
 }
 
+/* ---- Other opening stocks ---- */
+
+static void test_openings_of(struct random *r, const uint8_t *graph,
+                             size_t length, struct worked one,
+                             struct openings *seen)
+{
+    uint8_t other_graph[MOST_GRAPH_BYTES], other_sheet[ROOM];
+    struct shape s = shape_of(graph, length);
+    for (unsigned change = 0; change < OPENING_CHANGES; change++) {
+        struct worked other = {.sheet = other_sheet};
+        memcpy(other_graph, graph, length);
+        unsigned type = generate_opening(r, change, other_graph, length);
+        random_fill(r, other_sheet, sheet_bytes(s));
+        other.answer = work_out(other_graph, length, other_sheet,
+                                sheet_bytes(s));
+        const char *fault = opening_fault(s, change, type, one, other, seen);
+        expect(fault == NULL, fault, change);
+    }
+}
+
+static void test_openings(unsigned cases, struct draft *d, uint8_t *sheet)
+{
+    struct openings seen = {.removed = 0};
+    for (unsigned i = 0; i < cases; i++) {
+        struct random r = random_of(SEED + 8, i);
+        uint8_t graph[MOST_GRAPH_BYTES];
+        do
+            generate_graph(&r, &small, d);
+        while (lost_call(d) != 0);
+        struct worked one = {work_out_draft(d, sheet), sheet};
+        size_t length = draft_write(d, graph);
+        test_openings_of(&r, graph, length, one, &seen);
+    }
+    openings_print(&seen);
+    expect(openings_suffice(&seen), "enough to see", cases);
+}
+
 /* ---- The sheet against runs ---- */
 
 /* What runs bring is never less than the sheet says; answers whether it is
@@ -1208,6 +1242,7 @@ int main(int argc, char **argv)
     test_limit_graphs(cases / 50, &d, sheet);
     test_damaged_files(2 * cases, &d, sheet);
     test_lines(cases, &d, sheet);
+    test_openings(cases, &d, sheet);
     test_runs(2 * cases, &d, sheet);
     printf("all passed\n");
     return 0;
