@@ -19,13 +19,26 @@ abbrev pub In : Stretch → ℕ → Type 0
 In s k = (s .from ≤ k) × (k < s .to)
 
 module _ (f : List ℕ) (t : Tables) (table : Table) where
-  first-lowest : (x : ℕ) → Lowest (AtLeast (keyOf f t table) x) (rowsOf t table) (firstRow f t table x)
+  pub first-lowest : (x : ℕ) → Lowest (AtLeast (keyOf f t table) x) (rowsOf t table) (firstRow f t table x)
   unfolding firstRow
   first-lowest x = is-lowest (AtLeast (keyOf f t table) x) (rowsOf t table)
 
   -- before the first row keys are less than x
   before-first : (x k : ℕ) → k < firstRow f t table x → keyOf f t table k < x
   before-first x k l = leb-false x (keyOf f t table k) (first-lowest x .before k l)
+
+  -- a larger key's first row is no earlier
+  pub first-next : (x : ℕ) → firstRow f t table x ≤ firstRow f t table (x + 1)
+  first-next x = go (ltb (firstRow f t table (x + 1)) (firstRow f t table x)) refl
+    where
+      go : (b : Bool) → ltb (firstRow f t table (x + 1)) (firstRow f t table x) ≡ b → firstRow f t table x ≤ firstRow f t table (x + 1)
+      go false q = ltb-false _ _ q
+      go true q =
+          let l : firstRow f t table (x + 1) < firstRow f t table x = ltb-true _ _ q in
+          let i = firstRow f t table (x + 1) in
+          let a : x + 1 ≤ keyOf f t table i = leb-true (x + 1) (keyOf f t table i) (first-lowest (x + 1) .found (omega (arith, first-lowest x .within))) in
+          let b : keyOf f t table i < x = before-first x i l in
+          absurd (omega arith)
 
   pub to-within : (x : ℕ) → stretchOf f t table x .to ≤ rowsOf t table
   unfolding stretchOf

@@ -2,7 +2,7 @@
 use tables::Table;
 use tables::Tables;
 ghost use mathlib.Core.Path.{_≡_};
-ghost use Prim.Native.Nat.{_<_};
+ghost use Prim.Native.Nat.{_<_, _≤_};
 ghost use Rattle.rows.specs.Rows.{catchKey, keyOf, Sorted, firstRow, stretchOf, flowOf, callsOf, ownOf, catchesOf, noRows, targetOf};
 
 // The rows from `from` on and before `to`.
@@ -55,14 +55,31 @@ fn first_row(f: &[u8], t: Tables, table: Table, x: u32) -> u16
     low
 }
 
+// The same by a walk from a row that is not past it: a node has few rows, so the end of a stretch is near its start.
+fn seek(f: &[u8], t: Tables, table: Table, x: u32, from: u16) -> u16
+    requires { ⌜ from ≤ firstRow (now f) t table x ⌝ }
+    ensures { λ r. ⌜ r ≡ firstRow (now (f .entry)) t table x ⌝ }
+{
+    let n = tables::rows(t, table);
+    let mut k = from;
+    while k < n {
+        if x <= key(f, t, table, k) {
+            return k;
+        }
+        k += 1;
+    }
+    n
+}
+
 // The rows with key x.
 fn with_key(f: &[u8], t: Tables, table: Table, x: u32) -> Stretch
     requires { ⌜ Sorted (now f) t × (x < 1048576) ⌝ }
     ensures { λ r. ⌜ r ≡ stretchOf (now (f .entry)) t table x ⌝ }
 {
+    let from = first_row(f, t, table, x);
     Stretch {
-        from: first_row(f, t, table, x),
-        to: first_row(f, t, table, x + 1),
+        from,
+        to: seek(f, t, table, x + 1, from),
     }
 }
 

@@ -6,3 +6,4 @@ pub mod Bytes
 pub mod Fill
 pub mod Turn
 pub mod Least
+pub mod Four

@@ -3,3 +3,4 @@ pub mod Lowest
 pub mod Write
 pub mod Turn
 pub mod Least
+pub mod Four

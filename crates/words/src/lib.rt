@@ -3,6 +3,7 @@ ghost use mathlib.Core.Path.{_≡_};
 ghost use Prim.Native.Nat.{_+_, _*_, _<_, _≤_, min};
 ghost use lib.ListN.{length, getD};
 ghost use Rattle.words.specs.Bytes.{byteAt, wordAt};
+ghost use Rattle.words.specs.Four.{fourAt};
 ghost use Rattle.words.specs.Write.{splice, wordBytes, bytesOf};
 
 // The byte at `at`.
@@ -16,11 +17,14 @@ pub fn byte(s: &[u8], at: usize) -> usize
 pub fn word(s: &[u8], at: usize) -> usize
     ensures { λ r. ⌜ (r ≡ wordAt (now (s .entry)) at) × (r < 65536) ⌝ }
 {
-    if at < s.len() {
-        byte(s, at) + 256 * byte(s, at + 1)
-    } else {
-        0
+    let n = s.len();
+    if 1 < n {
+        if at < n - 1 {
+            return inner_word(s, at);
+        }
+        return byte(s, at);
     }
+    byte(s, at)
 }
 
 // The same, where both bytes are known to lie in the slice, so that nothing is tested.
@@ -29,6 +33,16 @@ pub fn inner_word(s: &[u8], at: usize) -> usize
     ensures { λ r. ⌜ (r ≡ wordAt (now (s .entry)) at) × (r < 65536) ⌝ }
 {
     s[at] as usize + 256 * (s[at + 1] as usize)
+}
+
+// Four such words as one number, so that they are compared at once.
+pub fn inner_four(s: &[u8], at: usize) -> usize
+    requires { ⌜ at + 8 ≤ length (now s) ⌝ }
+    ensures { λ r. ⌜ r ≡ fourAt (now (s .entry)) at ⌝ }
+{
+    let low = inner_word(s, at) + 65536 * inner_word(s, at + 2);
+    let high = inner_word(s, at + 4) + 65536 * inner_word(s, at + 6);
+    low + 4294967296 * high
 }
 
 // The word v is written at `at`.
