@@ -6,6 +6,9 @@ use tables::Table;
 use tables::Tables;
 ghost use mathlib.Core.Path.{_≡_};
 ghost use Prim.Native.Nat.{_<_};
+ghost use Rattle.effect.specs.Whole.{failsOf};
+ghost use Rattle.sheet.specs.Read.{effectAt};
+ghost use Rattle.sheet.specs.Under.{effectUnder};
 ghost use Rattle.demand.specs.Demand.{tableAt, turned, goesIn, nodeEffect, steppedIn, calledIn, thrownIn};
 
 // What a call row gives: the call, the method called, whether the call is marked, whether exit 0 of the method is, and the rounds, which
@@ -61,6 +64,31 @@ pub fn stepped(f: &[u8], t: Tables, x: Shape, s: &[u8], n: u16) -> Effect
     ensures { λ r. ⌜ r ≡ steppedIn (now (f .entry)) t x (now (s .entry)) n ⌝ }
 {
     effect::then(node_effect(s, x, n), nodes::step(f, t, n))
+}
+
+// Rule 3: the lowest type at which the effect of the block at v is not at most that, or 6. Blocks that lie in the sheet are compared where
+// they stand, and the step is taken for its own type alone.
+pub fn stepped_fails(f: &[u8], t: Tables, x: Shape, s: &[u8], n: u16, v: usize) -> usize
+    ensures { λ r. ⌜ r ≡ failsOf (effectAt (now (s .entry)) (x .types) v) (steppedIn (now (f .entry)) t x (now (s .entry)) n) ⌝ }
+{
+    let w = layout::node_at(x, n);
+    let own = tables::node_number(f, t, n);
+    let blocks = sheet::lies_in(s, x.types, v, 4) & sheet::lies_in(s, x.types, w, 4);
+    if blocks & (own < x.types) {
+        let step = nodes::own_step(f, t, n);
+        return sheet::stepped_fails(s, x.types, v, w, own as usize, step);
+    }
+    effect::fails(sheet::effect(s, x.types, v), stepped(f, t, x, s, n))
+}
+
+// Rule 3: the block at v has mark 1 and is at most that.
+pub fn stepped_met(f: &[u8], t: Tables, x: Shape, s: &[u8], n: u16, v: usize) -> bool
+    ensures { λ r. ⌜ r ≡ effectUnder (now (s .entry)) x v (steppedIn (now (f .entry)) t x (now (s .entry)) n) ⌝ }
+{
+    if sheet::is_marked(s, v) {
+        return stepped_fails(f, t, x, s, n, v) == 6;
+    }
+    false
 }
 
 // Rules 7 to 10, of call row k.

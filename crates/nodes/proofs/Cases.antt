@@ -1,10 +1,16 @@
 -- What a node does and what a run starts with, at each case that the code tells apart.
 use Prim.Native.Nat.{ℕ, _<_, _≤_}
-use mathlib.Core.Path.{_≡_, sym, ap, _∙_}
+use mathlib.Core.Path.{_≡_, refl, sym, ap, _∙_}
+use mathlib.Core.Bool.{Bool, true, false}
 use mathlib.Core.List.{List}
+use lib.Dec.{eqb}
 use borrow.Author.Tests.{lt-ltb, le-ltb, le-leb, lt-leb, eq-eqb, ne-eqb}
 use Rattle.effect.specs.declared.Effect.{Effect}
-use Rattle.effect.specs.Whole.{nothingDone, drawOf, grantOf}
+use Rattle.single.specs.declared.One.{One}
+use Rattle.single.specs.Single.{idle}
+use Rattle.single.specs.Formulas.{drawn, granted}
+use Rattle.effect.specs.Six.{effectOf}
+use Rattle.effect.specs.Whole.{nothingDone, oneIf, drawOf, grantOf}
 use Rattle.model.specs.Stocks.{Does, plain, grant, draw, stepOf}
 use Rattle.tables.specs.declared.Tables.{Tables}
 use Rattle.tables.specs.Kinds.{grantKind, drawKind}
@@ -42,6 +48,24 @@ module _ (r : Effect) {d : Does} where
   pub step-draw : {t p t′ : ℕ} → d ≡ draw t p → r ≡ drawOf t′ → t′ ≡ t → r ≡ stepOf d
   unfolding stepOf
   step-draw e q a = q ∙ ap drawOf a ∙ ap stepOf (sym e)
+
+-- and of the type j, which the step is of
+if-idle : (b : Bool) → idle ≡ oneIf b idle
+if-idle true = refl
+if-idle false = refl
+
+module _ (r : One) {d : Does} (j : ℕ) where
+  pub own-plain : d ≡ plain → r ≡ idle → stepOf d ≡ effectOf (λ k. oneIf (eqb k j) r)
+  unfolding stepOf nothingDone
+  own-plain e q = ap stepOf e ∙ (λ i. effectOf (λ k. if-idle (eqb k j) i)) ∙ (λ i. effectOf (λ k. oneIf (eqb k j) (sym q i)))
+
+  pub own-grant : {p m p′ m′ : ℕ} → d ≡ grant j p m → r ≡ granted p′ m′ → p′ ≡ p → m′ ≡ m → stepOf d ≡ effectOf (λ k. oneIf (eqb k j) r)
+  unfolding stepOf grantOf
+  own-grant e q b c = ap stepOf e ∙ (λ i. effectOf (λ k. oneIf (eqb k j) (sym (q ∙ (λ l. granted (b l) (c l))) i)))
+
+  pub own-draw : {p : ℕ} → d ≡ draw j p → r ≡ drawn → stepOf d ≡ effectOf (λ k. oneIf (eqb k j) r)
+  unfolding stepOf drawOf
+  own-draw e q = ap stepOf e ∙ (λ i. effectOf (λ k. oneIf (eqb k j) (sym q i)))
 
 -- what the opening stock has of a type
 module _ (t : Tables) (row : ℕ → ℕ) (k : ℕ) where

@@ -1,9 +1,13 @@
 // What the nodes of a file do to a stock, and the stock that a run starts with.
 use effect::Effect;
 use effect::Stock;
+use single::One;
 use tables::Tables;
 ghost use mathlib.Core.Path.{_≡_};
-ghost use Rattle.tables.specs.Fields.{openingRights, openingCount};
+ghost use lib.Dec.{eqb};
+ghost use Rattle.effect.specs.Six.{effectOf};
+ghost use Rattle.effect.specs.Whole.{oneIf};
+ghost use Rattle.tables.specs.Fields.{nodeNumber, openingRights, openingCount};
 ghost use Rattle.model.specs.Stocks.{stepOf};
 ghost use Rattle.nodes.specs.Nodes.{doesIn, forType, openingIn};
 
@@ -25,6 +29,25 @@ pub fn step(f: &[u8], t: Tables, n: u16) -> Effect
         return effect::draw(tables::node_number(f, t, n) as usize);
     }
     effect::nothing_done()
+}
+
+// The same of the node's own type, its number: nothing is done to another.
+pub fn own_step(f: &[u8], t: Tables, n: u16) -> One
+    ensures { λ r. ⌜ stepOf (doesIn (now (f .entry)) t n) ≡ effectOf (λ k. oneIf (eqb k (nodeNumber (now (f .entry)) t n)) r) ⌝ }
+{
+    if t.nodes <= n {
+        return single::nothing_done();
+    }
+    let kind = tables::node_kind(f, t, n);
+    if kind == tables::GRANT {
+        let rights = tables::node_rights(f, t, n);
+        return single::grant(rights, tables::node_count(f, t, n));
+    }
+    let draws = kind == tables::DRAW;
+    if draws {
+        return single::draw();
+    }
+    single::nothing_done()
 }
 
 // What the opening stock has of type k, of those that the file has.

@@ -13,6 +13,7 @@ ghost use Rattle.words.specs.Turn.{inTurn};
 ghost use Rattle.tables.specs.declared.Table.the-variants.{Calls};
 ghost use Rattle.rows.specs.Rows.{Sorted, targetOf};
 ghost use Rattle.layout.specs.Layout.{nodeAt};
+ghost use Rattle.demand.specs.Demand.{steppedIn};
 ghost use Rattle.demand.specs.Walk.{of-effect, of-stock, rowsWalk, leavingWalk, startWalk, entryWalk, flowWalk, endWalk, nodeWalk, afterWalk, intoWalk, thrownWalk, rowWalk, tableWalk, tablesWalk};
 ghost use Rattle.rules.specs.Keys.{keyIf, lessened, leastKey};
 
@@ -140,6 +141,17 @@ fn at_entry(f: &[u8], t: Tables, x: Shape, s: &[u8], m: u16, least: usize) -> us
     effect_key(s, x, 2, w, effect::nothing_done(), least)
 }
 
+// Rule 3, of the block at w and the node n whose step leads to it.
+fn flow_key(f: &[u8], t: Tables, x: Shape, s: &[u8], n: u16, w: usize, least: usize) -> usize
+    ensures { λ r. ⌜ r ≡ lessened x (now (s .entry)) (of-effect 3 w (steppedIn (now (f .entry)) t x (now (s .entry)) n)) least ⌝ }
+{
+    if sheet::is_marked(s, w) {
+        let k = demand::stepped_fails(f, t, x, s, n, w);
+        return words::smaller(least, at_type(3, k));
+    }
+    words::smaller(least, 8 * 3 + 6)
+}
+
 // Rule 3, of flow row k.
 fn along_flow(f: &[u8], t: Tables, x: Shape, s: &[u8], k: u16, least: usize) -> usize
     ensures { λ r. ⌜ r ≡ flowWalk (now (f .entry)) t x (λ v. now (s .entry)) (lessened x (now (s .entry))) k least ⌝ }
@@ -147,7 +159,7 @@ fn along_flow(f: &[u8], t: Tables, x: Shape, s: &[u8], k: u16, least: usize) -> 
     let from = tables::flow_from(f, t, k);
     if demand::goes(f, t, x, s, from) {
         let w = layout::node_at(x, tables::flow_to(f, t, k));
-        return effect_key(s, x, 3, w, demand::stepped(f, t, x, s, from), least);
+        return flow_key(f, t, x, s, from, w, least);
     }
     least
 }
@@ -169,11 +181,14 @@ fn at_end(f: &[u8], t: Tables, x: Shape, s: &[u8], n: u16, y: Effect, least: usi
     least
 }
 
-// Rules 4 to 6, of node n.
+// Rules 4 to 6, of node n. Only a return and a throw are looked at.
 fn at_node(f: &[u8], t: Tables, x: Shape, s: &[u8], n: u16, least: usize) -> usize
     requires { ⌜ Sorted (now f) t ⌝ }
     ensures { λ r. ⌜ r ≡ nodeWalk (now (f .entry)) t x (λ v. now (s .entry)) (lessened x (now (s .entry))) n least ⌝ }
 {
+    if tables::node_kind(f, t, n) < tables::RETURN {
+        return least;
+    }
     if sheet::is_marked(s, layout::node_at(x, n)) {
         return at_end(f, t, x, s, n, demand::node_effect(s, x, n), least);
     }

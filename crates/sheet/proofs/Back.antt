@@ -48,6 +48,9 @@ pub record EffectFits (t : ℕ) (e : Effect) : Type 0 where
 pub six-at : (f : ℕ → ℕ) (k : ℕ) → k < 6 → getD (six f) k 0 ≡ f k
 six-at f = below-six (λ k. getD (six f) k 0 ≡ f k) refl refl refl refl refl refl
 
+pub six-there : (f : ℕ → ℕ) (k : ℕ) → k < 6 → {v : ℕ} → v ≡ f k → v ≡ getD (six f) k 0
+six-there f k h e = e ∙ sym (six-at f k h)
+
 -- what is read of each type, and that it fits
 module _ (s : List ℕ) (t w : ℕ) where
   read-fits : (n j none : ℕ) → none < 65536 → FieldFits t none (six (column s t w n j none))

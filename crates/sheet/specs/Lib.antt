@@ -1,3 +1,4 @@
 pub mod Read
+pub mod Inner
 pub mod Under
 pub mod Write

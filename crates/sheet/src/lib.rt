@@ -1,14 +1,20 @@
 // The blocks of a sheet: read from lent bytes, and written where they stand in it.
 use effect::Effect;
 use effect::Stock;
+use single::Held;
+use single::One;
 ghost use mathlib.Core.Path.{_≡_};
 ghost use mathlib.Core.Bool.{true};
 ghost use Prim.Native.Nat.{_+_, _*_, _<_, _≤_};
 ghost use lib.ListN.{length, getD};
+ghost use lib.Dec.{eqb};
 ghost use Rattle.layout.specs.Layout.{stockSize, effectSize};
-ghost use Rattle.effect.specs.Six.{six};
+ghost use Rattle.single.specs.Formulas.{thenOne, atMostOne};
+ghost use Rattle.effect.specs.Six.{six, heldAt, oneAt, effectOf};
+ghost use Rattle.effect.specs.Whole.{oneIf, thenOf, failsOf};
 ghost use Rattle.words.specs.Write.{splice, bytesOf};
 ghost use Rattle.sheet.specs.Read.{sheetWord, markAt, marked, column, stockAt, effectAt};
+ghost use Rattle.sheet.specs.Inner.{oneWords};
 ghost use Rattle.sheet.specs.Write.{laidOut, stockBytes, effectBytes, blanked};
 
 // Word k of the block whose first word is w.
@@ -48,7 +54,7 @@ fn field(s: &[u8], t: u16, w: usize, n: usize, j: usize, none: u16, k: usize) ->
 }
 
 // A block of t types, at most six, with n words each lies in the sheet.
-fn lies_in(s: &[u8], t: u16, w: usize, n: usize) -> bool
+pub fn lies_in(s: &[u8], t: u16, w: usize, n: usize) -> bool
     requires { ⌜ n ≤ 4 ⌝ }
     ensures { λ r. ⌜ (r ≡ true → (t ≤ 6) × (2 * (w + (1 + n * t)) ≤ length (now (s .entry)))) ⌝ }
 {
@@ -101,15 +107,81 @@ pub fn stock(s: &[u8], t: u16, w: usize) -> Stock
     }
 }
 
+// What the effect of a block does to type k, whose four words lie in the sheet.
+pub fn inner_one(s: &[u8], w: usize, k: usize) -> One
+    requires { ⌜ 2 * (w + (5 + 4 * k)) ≤ length (now s) ⌝ }
+    ensures { λ r. ⌜ r ≡ oneWords (now (s .entry)) w k ⌝ }
+{
+    One {
+        keepin: words::inner_word(s, 2 * (w + (1 + 4 * k))) as u16,
+        keepmax: words::inner_word(s, 2 * (w + (2 + 4 * k))) as u16,
+        cap: words::inner_word(s, 2 * (w + (3 + 4 * k))) as u16,
+        drop: words::inner_word(s, 2 * (w + (4 + 4 * k))) as u16,
+    }
+}
+
+// The effect of a block that lies in the sheet, read type by type.
+fn inner_effect(s: &[u8], t: u16, w: usize) -> Effect
+    requires { ⌜ (t ≤ 6) × (2 * (w + effectSize t) ≤ length (now s)) ⌝ }
+    ensures { λ r. ⌜ r ≡ effectAt (now (s .entry)) t w ⌝ }
+{
+    let mut keepin = [0; 6];
+    let mut keepmax = [65535; 6];
+    let mut cap = [255; 6];
+    let mut drop = [0; 6];
+    let mut k = 0;
+    while k < t as usize {
+        let x = inner_one(s, w, k);
+        keepin[k] = x.keepin;
+        keepmax[k] = x.keepmax;
+        cap[k] = x.cap;
+        drop[k] = x.drop;
+        k += 1;
+    }
+    Effect {
+        keepin,
+        keepmax,
+        cap,
+        drop,
+    }
+}
+
 // The effect of the block whose first word is w, of t types.
 pub fn effect(s: &[u8], t: u16, w: usize) -> Effect
     ensures { λ r. ⌜ r ≡ effectAt (now (s .entry)) t w ⌝ }
 {
+    if lies_in(s, t, w, 4) {
+        return inner_effect(s, t, w);
+    }
     Effect {
         keepin: six_of(s, t, w, 4, 1, 0),
         keepmax: six_of(s, t, w, 4, 2, 65535),
         cap: six_of(s, t, w, 4, 3, 255),
         drop: six_of(s, t, w, 4, 4, 0),
+    }
+}
+
+// What the stock of the block at w has of type k,
+pub fn held(s: &[u8], t: u16, w: usize, k: usize) -> Held
+    requires { ⌜ k < 6 ⌝ }
+    ensures { λ r. ⌜ r ≡ heldAt (stockAt (now (s .entry)) t w) k ⌝ }
+{
+    Held {
+        rights: field(s, t, w, 2, 1, 0, k),
+        count: field(s, t, w, 2, 2, 0, k),
+    }
+}
+
+// and what its effect does to type k.
+pub fn one(s: &[u8], t: u16, w: usize, k: usize) -> One
+    requires { ⌜ k < 6 ⌝ }
+    ensures { λ r. ⌜ r ≡ oneAt (effectAt (now (s .entry)) t w) k ⌝ }
+{
+    One {
+        keepin: field(s, t, w, 4, 1, 0, k),
+        keepmax: field(s, t, w, 4, 2, 65535, k),
+        cap: field(s, t, w, 4, 3, 255, k),
+        drop: field(s, t, w, 4, 4, 0, k),
     }
 }
 
@@ -173,4 +245,43 @@ pub fn write_effect(s: &mut [u8], t: u16, w: usize, e: Effect)
     let v = laid(laid(r, t, 4, 3, cap), t, 4, 4, drop);
     let n = 1 + 4 * t as usize;
     put_block(s, w, &v[..n]);
+}
+
+// Type k of the block at v is at most type k of the block at w. Most are the same, which one comparison tells.
+fn one_under(s: &[u8], v: usize, w: usize, k: usize) -> bool
+    requires { ⌜ (2 * (v + (5 + 4 * k)) ≤ length (now s)) × (2 * (w + (5 + 4 * k)) ≤ length (now s)) ⌝ }
+    ensures { λ r. ⌜ r ≡ atMostOne (oneWords (now (s .entry)) v k) (oneWords (now (s .entry)) w k) ⌝ }
+{
+    let here = words::inner_four(s, 2 * (v + (1 + 4 * k)));
+    let there = words::inner_four(s, 2 * (w + (1 + 4 * k)));
+    if here == there {
+        return true;
+    }
+    single::at_most(inner_one(s, v, k), inner_one(s, w, k))
+}
+
+// The same, where y is done to type n after what the block at w says.
+fn stepped_under(s: &[u8], v: usize, w: usize, n: usize, y: One, k: usize) -> bool
+    requires { ⌜ (2 * (v + (5 + 4 * k)) ≤ length (now s)) × (2 * (w + (5 + 4 * k)) ≤ length (now s)) ⌝ }
+    ensures { λ r. ⌜ r ≡ atMostOne (oneWords (now (s .entry)) v k) (thenOne (oneWords (now (s .entry)) w k) (oneIf (eqb k n) y)) ⌝ }
+{
+    if k == n {
+        return single::at_most(inner_one(s, v, k), single::then(inner_one(s, w, k), y));
+    }
+    one_under(s, v, w, k)
+}
+
+// The lowest type at which the effect of the block at v is not at most that at w, then y for the type n; or 6. Both blocks lie in the sheet.
+pub fn stepped_fails(s: &[u8], t: u16, v: usize, w: usize, n: usize, y: One) -> usize
+    requires { ⌜ (t ≤ 6) × (n < t) × (2 * (v + effectSize t) ≤ length (now s)) × (2 * (w + effectSize t) ≤ length (now s)) ⌝ }
+    ensures { λ r. ⌜ r ≡ failsOf (effectAt (now (s .entry)) t v) (thenOf (effectAt (now (s .entry)) t w) (effectOf (λ k. oneIf (eqb k n) y))) ⌝ }
+{
+    let mut k = 0;
+    while k < t as usize {
+        if !stepped_under(s, v, w, n, y, k) {
+            return k;
+        }
+        k += 1;
+    }
+    6
 }

@@ -101,15 +101,18 @@ fn at_entry(f: &[u8], t: Tables, x: Shape, s: &mut [u8], m: u16, wrote: bool) ->
     take_effect(s, x, w, effect::nothing_done(), wrote)
 }
 
-// Rule 3, of flow row k.
+// Rule 3, of flow row k. Most rows are met, so it is tested first.
 fn along_flow(f: &[u8], t: Tables, x: Shape, s: &mut [u8], k: u16, wrote: bool) -> bool
     requires { ⌜ Ready (now f) t x (now s) × (k < t .flows) ⌝ }
     ensures { λ r. ⌜ (now (s .exit), r) ≡ flowWalk (now (f .entry)) t x sheetOf (lowers x) k (now (s .entry), wrote) ⌝ }
 {
     let n = tables::flow_from(f, t, k);
     if demand::goes(f, t, x, s, n) {
-        let e = demand::stepped(f, t, x, s, n);
         let w = layout::node_at(x, tables::flow_to(f, t, k));
+        if demand::stepped_met(f, t, x, s, n, w) {
+            return wrote;
+        }
+        let e = demand::stepped(f, t, x, s, n);
         return take_effect(s, x, w, e, wrote);
     }
     wrote
@@ -131,11 +134,14 @@ fn at_end(f: &[u8], t: Tables, x: Shape, s: &mut [u8], n: u16, y: Effect, wrote:
     wrote
 }
 
-// Rules 4 to 6, of node n.
+// Rules 4 to 6, of node n. Only a return and a throw are looked at.
 fn at_node(f: &[u8], t: Tables, x: Shape, s: &mut [u8], n: u16, wrote: bool) -> bool
     requires { ⌜ Ready (now f) t x (now s) × (n < t .nodes) ⌝ }
     ensures { λ r. ⌜ (now (s .exit), r) ≡ nodeWalk (now (f .entry)) t x sheetOf (lowers x) n (now (s .entry), wrote) ⌝ }
 {
+    if tables::node_kind(f, t, n) < tables::RETURN {
+        return wrote;
+    }
     if sheet::is_marked(s, layout::node_at(x, n)) {
         let y = demand::node_effect(s, x, n);
         return at_end(f, t, x, s, n, y, wrote);

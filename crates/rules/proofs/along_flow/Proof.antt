@@ -13,17 +13,16 @@ use Rattle.rules.proofs.along_flow.Tie as tie
 returns : tie.Need-returns
 unfolding flowWalk
 returns c =
-    let step = c .before in
-    let at = step .before in
+    let at = c .before in
     let to = at .before in
     let goes = to .before .before in
     let from = goes .before in
     let a = from .before .before .before .args in
     let n = from .flow-from .ensures in
     let g : goesIn (now (a .f)) (a .t) (a .x) (now (a .s)) (flowFrom (now (a .f)) (a .t) (a .k)) ≡ true = ap (goesIn (now (a .f)) (a .t) (a .x) (now (a .s))) (sym n) ∙ sym (goes .goes .ensures) ∙ to .before .if1 .taken in
-    c .effect-key .ensures
+    c .flow-key .ensures
     ∙ (λ i. lessened (a .x) (now (a .s))
-    (of-effect 3 ((at .node-at .ensures ∙ ap (nodeAt (a .x)) (to .flow-to .ensures)) i) ((step .stepped .ensures ∙ ap (steppedIn (now (a .f)) (a .t) (a .x) (now (a .s))) n) i)) (a .least))
+    (of-effect 3 ((at .node-at .ensures ∙ ap (nodeAt (a .x)) (to .flow-to .ensures)) i) (steppedIn (now (a .f)) (a .t) (a .x) (now (a .s)) (n i))) (a .least))
     ∙ simp g
 
 returns-2 : tie.Need-returns-2
@@ -37,4 +36,4 @@ returns-2 c =
     simp g
 
 pub along-flow-spec : {M : Type 1} → statement M
-along-flow-spec = tie.close (tie.spec (λ c κs. search needs) (λ c κs. search needs) (λ c κs. search needs) (λ c κs. search needs) (λ c κs. search needs) (λ c κs. search needs) returns returns-2)
+along-flow-spec = tie.close (tie.spec (λ c κs. search needs) (λ c κs. search needs) (λ c κs. search needs) (λ c κs. search needs) (λ c κs. search needs) returns returns-2)

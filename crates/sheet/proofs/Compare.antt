@@ -1,0 +1,146 @@
+-- Two blocks compared type by type on their words.
+use Prim.Native.Nat.{ℕ, _+_, _*_, _≤_, _<_}
+use mathlib.Core.Path.{_≡_, refl, sym, ap, subst, _∙_}
+use mathlib.Core.Bool.{Bool, true, false, cond, not}
+use mathlib.Core.List.{List}
+use lib.Dec.{ltb, eqb}
+use lib.ListN.{getD}
+use lib.Bits.{bitOr, and-le-r}
+use borrow.Author.Count.{below-more}
+use borrow.Author.Tests.{lt-ltb, ne-eqb, not-false}
+use native.Mathlib.Decide.{decLt}
+use native.Mathlib.Omega.{arith}
+use Rattle.words.specs.Bytes.{wordAt}
+use Rattle.words.specs.Four.{fourAt}
+use Rattle.words.proofs.Read.{word-lt}
+use Rattle.words.proofs.Four.{four-same}
+use Rattle.words.proofs.Lowest.{lowest-is, lowest-none}
+use Rattle.single.specs.declared.Held.{Held}
+use Rattle.single.specs.declared.One.{One}
+use Rattle.single.specs.Single.{idle, applyOne}
+use Rattle.single.specs.Formulas.{thenOne, atMostOne}
+use Rattle.effect.specs.declared.Effect.{Effect}
+use Rattle.effect.specs.Six.{six, heldAt, stockOf, oneAt, effectOf}
+use Rattle.effect.specs.Whole.{oneIf, nothingDone, applyOf, thenOf, failsOf}
+use Rattle.effect.proofs.Count.{after-top}
+use Rattle.effect.proofs.Six.{stock-at, effect-at}
+use Rattle.effect.proofs.Single.{below-along, one-then, one-sound, one-complete, one-refl}
+use Rattle.effect.proofs.Laws.{Fits, apply-nothing}
+use Rattle.effect.proofs.Fields.{fields-idle}
+use Rattle.number.specs.Number.{rightsAfter}
+use Rattle.sheet.specs.Read.{sheetWord, column, effectAt}
+use Rattle.sheet.specs.Inner.{oneWords}
+use Rattle.sheet.proofs.Back.{six-at, effect-read}
+
+-- words that are the same are the same effect
+pub ones-same : (s : List ℕ) (v w k : ℕ) → fourAt s (2 * (v + (1 + 4 * k))) ≡ fourAt s (2 * (w + (1 + 4 * k))) → oneWords s v k ≡ oneWords s w k
+unfolding oneWords
+ones-same s v w k e =
+    let h = four-same s (2 * (v + (1 + 4 * k))) (2 * (w + (1 + 4 * k))) e in
+    λ i. record {
+      keepin = h .first i;
+      keepmax = (at 1 v ∙ h .second ∙ sym (at 1 w)) i;
+      cap = (at 2 v ∙ h .third ∙ sym (at 2 w)) i;
+      drop = (at 3 v ∙ h .fourth ∙ sym (at 3 w)) i;
+    }
+  where
+    at : (j u : ℕ) → sheetWord s (u + (1 + j + 4 * k)) ≡ wordAt s (2 * (u + (1 + 4 * k)) + 2 * j)
+    at j u = ap (wordAt s) (omega arith)
+
+pub same-under : (s : List ℕ) (v w k : ℕ) → fourAt s (2 * (v + (1 + 4 * k))) ≡ fourAt s (2 * (w + (1 + 4 * k))) → atMostOne (oneWords s v k) (oneWords s w k) ≡ true
+same-under s v w k e = rw (ones-same s v w k e) (one-refl (oneWords s w k))
+
+-- nothing done after an effect whose keep-max is a word leaves what the effect leaves
+idle-same : (h : Held) → Fits h → applyOne idle h ≡ h
+unfolding applyOf nothingDone
+idle-same h f = λ i. heldAt (apply-nothing (stockOf (λ k. h)) refl (λ k l. subst Fits (sym (stock-at (λ j. h) k l)) f) i) 0
+
+left-fits : (x : One) (h : Held) → x .keepmax < 65536 → Fits (applyOne x h)
+unfolding applyOne rightsAfter
+left-fits x h w = (omega (arith, and-le-r (bitOr (h .rights) (x .keepin)) (x .keepmax)), after-top (x .cap) (x .drop) (h .count))
+
+both-ways : (a b : Bool) → (a ≡ true → b ≡ true) → (b ≡ true → a ≡ true) → a ≡ b
+both-ways true b p q = sym (p refl)
+both-ways false true p q = q refl
+both-ways false false p q = refl
+
+-- so it is compared as the effect is
+pub idle-under : (a x : One) → x .keepmax < 65536 → atMostOne a x ≡ atMostOne a (thenOne x idle)
+idle-under a x w =
+    both-ways (atMostOne a x) (atMostOne a (thenOne x idle))
+    (λ p. one-complete a (thenOne x idle) (λ h. below-along refl (left h) (one-sound a x p h)))
+    (λ p. one-complete a x (λ h. below-along refl (sym (left h)) (one-sound a (thenOne x idle) p h)))
+  where
+    left : (h : Held) → applyOne (thenOne x idle) h ≡ applyOne x h
+    left h = one-then x idle h ∙ idle-same (applyOne x h) (left-fits x h w)
+
+pub word-small : (s : List ℕ) (w k : ℕ) → oneWords s w k .keepmax < 65536
+unfolding oneWords
+word-small s w k = word-lt s (2 * (w + (2 + 4 * k)))
+
+module _ (s : List ℕ) (t w : ℕ) where
+  -- what is read of a type that the file has,
+  pub one-read : (k : ℕ) → k < t → k < 6 → oneAt (effectAt s t w) k ≡ oneWords s w k
+  unfolding effectAt oneWords
+  one-read k u l = λ i. record { keepin = at 1 0 i; keepmax = at 2 65535 i; cap = at 3 255 i; drop = at 4 0 i }
+    where
+      at : (j none : ℕ) → getD (six (column s t w 4 j none)) k 0 ≡ sheetWord s (w + (j + 4 * k))
+      at j none = six-at (column s t w 4 j none) k l ∙ ap (λ (b : Bool). cond b (sheetWord s (w + (j + 4 * k))) none) (lt-ltb k t u)
+
+  -- and of a further one
+  pub idle-read : (k : ℕ) → t ≤ k → k < 6 → oneAt (effectAt s t w) k ≡ idle
+  idle-read k u l =
+      let f = effect-read s t w in
+      fields-idle (effectAt s t w) k (record { keepin = f .keepin .rest k u l; keepmax = f .keepmax .rest k u l; cap = f .cap .rest k u l; drop = f .drop .rest k u l })
+
+-- the test of type k: the block at v against that at w, then y for the type n
+abbrev pub underAt : List ℕ → ℕ → ℕ → ℕ → One → ℕ → Bool
+underAt s v w n y k = atMostOne (oneWords s v k) (thenOne (oneWords s w k) (oneIf (eqb k n) y))
+
+idle-idle : (x : One) → x ≡ idle → atMostOne idle (thenOne idle x) ≡ true
+unfolding idle
+idle-idle x e = rw e (sym (idle-under idle idle (omega arith)) ∙ one-refl idle)
+
+module _ (s : List ℕ) (t v w n : ℕ) (y : One) (few : t ≤ 6) (own : n < t) where
+  abbrev Step : Effect
+  Step = effectOf (λ k. oneIf (eqb k n) y)
+
+  abbrev After : Effect
+  After = thenOf (effectAt s t w) Step
+
+  after-at : (k : ℕ) → k < 6 → oneAt After k ≡ thenOne (oneAt (effectAt s t w) k) (oneIf (eqb k n) y)
+  unfolding thenOf
+  after-at k l = effect-at (λ k. thenOne (oneAt (effectAt s t w) k) (oneAt Step k)) k l ∙ ap (thenOne (oneAt (effectAt s t w) k)) (effect-at (λ k. oneIf (eqb k n) y) k l)
+
+  type-had : (k : ℕ) → k < t → atMostOne (oneAt (effectAt s t v) k) (oneAt After k) ≡ underAt s v w n y k
+  type-had k u =
+      let l : k < 6 = omega arith in
+      λ i. atMostOne (one-read s t v k u l i) ((after-at k l ∙ ap (λ (x : One). thenOne x (oneIf (eqb k n) y)) (one-read s t w k u l)) i)
+
+  type-past : (k : ℕ) → t ≤ k → k < 6 → atMostOne (oneAt (effectAt s t v) k) (oneAt After k) ≡ true
+  type-past k u l =
+      let a = after-at k l ∙ ap (λ (x : One). thenOne x (oneIf (eqb k n) y)) (idle-read s t w k u l) in
+      (λ i. atMostOne (idle-read s t v k u l i) (a i)) ∙ idle-idle (oneIf (eqb k n) y) (ap (λ (b : Bool). oneIf b y) (ne-eqb k n (λ e. omega arith)))
+
+  -- what the loop over the types finds, with r for the test of type k
+  abbrev Before : ℕ → Type 0
+  Before k = (j : ℕ) → j < k → underAt s v w n y j ≡ true
+
+  module _ (k : ℕ) (before : Before k) {r : Bool} (test : r ≡ underAt s v w n y k) where
+    pub step-more : not r ≡ false → Before (k + 1)
+    step-more e = below-more (λ j. underAt s v w n y j ≡ true) k before (sym test ∙ not-false r e)
+
+    pub step-found : k < t → not r ≡ true → k ≡ failsOf (effectAt s t v) After
+    unfolding failsOf
+    step-found u e =
+        sym (lowest-is (λ j. not (atMostOne (oneAt (effectAt s t v) j) (oneAt After j))) 6 k
+        (λ j l. ap not (type-had j (omega arith) ∙ before j l)) (omega arith) (ap not (type-had k u ∙ sym test) ∙ e))
+
+  pub step-none : (k : ℕ) → Before k → t ≤ k → 6 ≡ failsOf (effectAt s t v) After
+  unfolding failsOf
+  step-none k before u =
+      sym (lowest-none (λ j. not (atMostOne (oneAt (effectAt s t v) j) (oneAt After j))) 6
+      (λ j l. elim (decLt j t) [
+        | yes h ↦ ap not (type-had j h ∙ before j (omega arith))
+        | no h ↦ ap not (type-past j (omega arith) l)
+      ]))
