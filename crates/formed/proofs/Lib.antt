@@ -1,3 +1,4 @@
 pub mod Scan
 pub mod Judged
 pub mod Types
+pub mod Inner

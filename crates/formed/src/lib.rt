@@ -2,8 +2,12 @@
 use effect::Stock;
 use layout::Shape;
 ghost use mathlib.Core.Path.{_≡_};
-ghost use Prim.Native.Nat.{_<_};
-ghost use Rattle.formed.specs.Ill.{someWord, countsFit, fits, illBlock, firstIll};
+ghost use Prim.Native.Nat.{_+_, _*_, _<_, _≤_};
+ghost use lib.ListN.{length};
+ghost use Rattle.layout.specs.Layout.{effectSize};
+ghost use Rattle.effect.specs.Whole.{normalOf};
+ghost use Rattle.sheet.specs.Read.{markAt, effectAt};
+ghost use Rattle.formed.specs.Ill.{someWord, countsFit, fits, illBy, illBlock, firstIll};
 
 // One of the n words from w on is not 0.
 fn some_word(s: &[u8], w: usize, n: usize) -> bool
@@ -39,8 +43,8 @@ fn content_fits(s: &[u8], t: u16, w: usize, stock: bool) -> bool
     effect::normal(sheet::effect(s, t, w))
 }
 
-// Block b is ill formed.
-pub fn block_ill(s: &[u8], x: Shape, b: u32) -> bool
+// Block b is ill formed, judged word by word.
+fn any_ill(s: &[u8], x: Shape, b: u32) -> bool
     ensures { λ r. ⌜ r ≡ illBlock (now (s .entry)) x b ⌝ }
 {
     let w = layout::block_at(x, b);
@@ -52,6 +56,63 @@ pub fn block_ill(s: &[u8], x: Shape, b: u32) -> bool
         return !content_fits(s, x.types, w, layout::is_stock(x, b));
     }
     true
+}
+
+// One of the words of an unmarked effect that lies in the sheet is not 0: four are read at once.
+fn inner_some(s: &[u8], t: u16, w: usize) -> bool
+    requires { ⌜ (2 * (w + effectSize t) ≤ length (now s)) × (markAt (now s) w ≡ 0) ⌝ }
+    ensures { λ r. ⌜ r ≡ someWord (now (s .entry)) w (effectSize t) ⌝ }
+{
+    let mut k = 0;
+    while k < t as usize {
+        if words::inner_four(s, 2 * (w + (1 + 4 * k))) != 0 {
+            return true;
+        }
+        k += 1;
+    }
+    false
+}
+
+// An effect that lies in the sheet is normal.
+fn inner_normal(s: &[u8], t: u16, w: usize) -> bool
+    requires { ⌜ (t ≤ 6) × (2 * (w + effectSize t) ≤ length (now s)) ⌝ }
+    ensures { λ r. ⌜ r ≡ normalOf (effectAt (now (s .entry)) t w) ⌝ }
+{
+    let mut k = 0;
+    while k < t as usize {
+        if !single::normal(sheet::inner_one(s, w, k)) {
+            return false;
+        }
+        k += 1;
+    }
+    true
+}
+
+// A block with an effect that lies in the sheet is ill formed.
+fn inner_ill(s: &[u8], t: u16, w: usize) -> bool
+    requires { ⌜ (t ≤ 6) × (2 * (w + effectSize t) ≤ length (now s)) ⌝ }
+    ensures { λ r. ⌜ r ≡ illBy (markAt (now (s .entry)) w) (someWord (now (s .entry)) w (effectSize t)) (normalOf (effectAt (now (s .entry)) t w)) ⌝ }
+{
+    let mark = words::inner_word(s, 2 * w);
+    if mark == 0 {
+        return inner_some(s, t, w);
+    }
+    if mark == 1 {
+        return !inner_normal(s, t, w);
+    }
+    true
+}
+
+// Block b is ill formed. Nearly all blocks have an effect and lie in the sheet.
+pub fn block_ill(s: &[u8], x: Shape, b: u32) -> bool
+    ensures { λ r. ⌜ r ≡ illBlock (now (s .entry)) x b ⌝ }
+{
+    let w = layout::block_at(x, b);
+    let stock = layout::is_stock(x, b);
+    if !stock & sheet::lies_in(s, x.types, w, 4) {
+        return inner_ill(s, x.types, w);
+    }
+    any_ill(s, x, b)
 }
 
 // The lowest ill-formed block, or the number of blocks.

@@ -1,50 +1,35 @@
-use mathlib.Core.Path.{_≡_, ap, sym, _∙_}
+use mathlib.Core.Path.{_≡_, sym, _∙_}
+use mathlib.Core.Bool.{false, cond, not}
 use denote.Ref.{now}
-use borrow.Author.Tests.{eq-eqb, ne-eqb}
-use Rattle.layout.specs.Layout.{blockAt}
-use Rattle.sheet.specs.Read.{markAt}
-use Rattle.formed.specs.Ill.{illBlock}
+use borrow.Author.Tests.{not-true}
 use borrow.Author.Needs.{needs}
+use Rattle.words.proofs.Tests.{and-l, and-r}
+use Rattle.layout.specs.Layout.{effectSize, isStock, blockAt}
+use Rattle.layout.proofs.Blocks.{effect-size}
+use Rattle.effect.specs.Whole.{normalOf}
+use Rattle.sheet.specs.Read.{markAt, stockAt, effectAt}
+use Rattle.formed.specs.Ill.{someWord, countsFit, illBy, illBlock}
 use Rattle.formed.proofs.block_ill.Statement.{statement}
 use Rattle.formed.proofs.block_ill.Tie as tie
 
-mark-is : (c : tie.After-mark) → let a = c .before .before .before .args in c .mark .result ≡ markAt (now (a .s)) (blockAt (a .x) (a .b))
-mark-is c = c .mark .ensures ∙ ap (markAt _) (c .before .block-at .ensures .0)
+inner-ill-requires : tie.Need-inner-ill-requires
+inner-ill-requires c κs = c .before .lies-in .ensures (and-r (not (c .before .before .is-stock .result)) _ (c .if1 .taken))
 
 returns : tie.Need-returns
 unfolding illBlock
 returns c =
-    let l = c .before .before .before in
-    simp (eq-eqb _ _ (sym (mark-is l) ∙ c .before .before .if1 .taken), l .before .block-at .ensures .0, c .before .block-size .ensures .0, c .some-word .ensures)
-
-returns-2 : tie.Need-returns-2
-unfolding illBlock
-returns-2 c =
-    let l = c .before .before .before .before in
-    simp (
-      ne-eqb _ _ (λ e. c .before .before .before .if1 .left (mark-is l ∙ e)),
-      eq-eqb _ _ (sym (mark-is l) ∙ c .before .before .if2 .taken),
-      l .before .block-at .ensures .0,
-      c .before .is-stock .ensures,
-      c .content-fits .ensures,
-    )
-
-returns-3 : tie.Need-returns-3
-unfolding illBlock
-returns-3 c =
-    let l = c .before .before in
-    rw (ne-eqb _ _ (λ e. c .before .if1 .left (mark-is l ∙ e)), ne-eqb _ _ (λ e. c .if2 .left (mark-is l ∙ e)))
+    let test = c .before in
+    let stock = test .before .before in
+    let at = stock .before in
+    let a = at .before .before .args in
+    let s = now (a .s) in
+    let t = a .x .types in
+    let e = at .block-at .ensures .0 in
+    let q : isStock (a .x) (a .b) ≡ false = sym (stock .is-stock .ensures) ∙ not-true _ (and-l _ _ (test .if1 .taken)) in
+    c .inner-ill .ensures
+    ∙ (λ i. illBy (markAt s (e i)) (someWord s (e i) (sym (effect-size (a .x) (a .b) q) i)) (cond (sym q i) (countsFit (stockAt s t (e i))) (normalOf (effectAt s t (e i)))))
 
 pub block-ill-spec : {M : Type 1} → statement M
 block-ill-spec =
     tie.close
-    (tie.spec
-    (λ c κs. search needs)
-    (λ c κs. search needs)
-    (λ c κs. search needs)
-    (λ c κs. search needs)
-    returns
-    (λ c κs. search needs)
-    (λ c κs. search needs)
-    returns-2
-    returns-3)
+    (tie.spec (λ c κs. search needs) (λ c κs. search needs) (λ c κs. search needs) inner-ill-requires returns (λ c κs. search needs) (λ c. c .any-ill .ensures))
