@@ -3,6 +3,7 @@ use effect::Stock;
 use layout::Shape;
 use tables::Tables;
 ghost use mathlib.Core.Path.{_≡_};
+ghost use Rattle.effect.specs.Whole.{coversOf};
 ghost use Rattle.listing.specs.Node.{isReached, nodeStock};
 
 // The sheet calls node n reached: the node is marked, and so is its method.
@@ -21,4 +22,20 @@ pub fn stock(f: &[u8], t: Tables, x: Shape, s: &[u8], n: u16) -> Stock
     let w = layout::node_at(x, n);
     let v = layout::method_at(x, tables::node_method(f, t, n));
     effect::apply(sheet::effect(s, x.types, w), sheet::stock(s, x.types, v))
+}
+
+// That stock covers a draw of type k: only that type is read.
+pub fn covers(f: &[u8], t: Tables, x: Shape, s: &[u8], n: u16, k: usize, rights: u16) -> bool
+    ensures { λ r. ⌜ r ≡ coversOf (nodeStock (now (f .entry)) t x (now (s .entry)) n) k rights ⌝ }
+{
+    if k < 6 {
+        let at = layout::node_at(x, n);
+        let from = layout::method_at(x, tables::node_method(f, t, n));
+        let held = single::apply(
+            sheet::one(s, x.types, at, k),
+            sheet::held(s, x.types, from, k),
+        );
+        return single::covers(held, rights);
+    }
+    false
 }

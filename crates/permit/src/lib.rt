@@ -26,10 +26,9 @@ fn uncovered(f: &[u8], t: Tables, x: Shape, s: &[u8], n: u16) -> bool
         return false;
     }
     if listing::reached(f, t, x, s, n) {
-        let held = listing::stock(f, t, x, s, n);
         let number = tables::node_number(f, t, n);
         let rights = tables::node_rights(f, t, n);
-        return !effect::covers(held, number as usize, rights);
+        return !listing::covers(f, t, x, s, n, number as usize, rights);
     }
     false
 }

@@ -7,7 +7,7 @@ use borrow.Author.Tests.{eq-eqb, ne-eqb}
 use Rattle.effect.specs.Whole.{coversOf}
 use Rattle.tables.specs.Kinds.{drawKind}
 use Rattle.tables.specs.Fields.{nodeKind}
-use Rattle.listing.specs.Node.{isReached}
+use Rattle.listing.specs.Node.{isReached, nodeStock}
 use Rattle.permit.specs.Check.{uncoveredAt}
 use Rattle.permit.proofs.uncovered.Statement.{statement}
 use Rattle.permit.proofs.uncovered.Tie as tie
@@ -25,13 +25,12 @@ unfolding uncoveredAt
 returns-2 c =
     let rights = c .before in
     let number = rights .before in
-    let stock = number .before in
-    let reached = stock .before .before in
+    let reached = number .before .before in
     let kind = reached .before .before in
     let a = kind .before .before .before .args in
     let k : nodeKind (now (a .f)) (a .t) (a .n) ≡ drawKind = sym (kind .node-kind .ensures .0) ∙ reached .before .if1 .left in
-    let r : isReached (now (a .f)) (a .t) (a .x) (now (a .s)) (a .n) ≡ true = sym (reached .reached .ensures) ∙ stock .before .if2 .taken in
-    ap not (c .covers .ensures .0 ∙ (λ i. coversOf (stock .stock .ensures i) (number .node-number .ensures .0 i) (rights .node-rights .ensures i))) ∙ simp (eq-eqb _ _ k, r)
+    let r : isReached (now (a .f)) (a .t) (a .x) (now (a .s)) (a .n) ≡ true = sym (reached .reached .ensures) ∙ number .before .if2 .taken in
+    ap not (c .covers .ensures ∙ (λ i. coversOf (nodeStock (now (a .f)) (a .t) (a .x) (now (a .s)) (a .n)) (number .node-number .ensures .0 i) (rights .node-rights .ensures i))) ∙ simp (eq-eqb _ _ k, r)
 
 returns-3 : tie.Need-returns-3
 unfolding uncoveredAt
@@ -49,7 +48,6 @@ uncovered-spec =
     (tie.spec
     (λ c κs. search needs)
     returns
-    (λ c κs. search needs)
     (λ c κs. search needs)
     (λ c κs. search needs)
     (λ c κs. search needs)
