@@ -3,6 +3,7 @@
 #define PEER_ANSWER_H
 
 #include <stdbool.h>
+#include <stddef.h>
 #include <stdint.h>
 
 static inline uint64_t packed(unsigned number, unsigned place)
@@ -41,6 +42,14 @@ static inline unsigned place_in(uint64_t answer)
 static inline unsigned line_in(uint64_t answer)
 {
     return (unsigned)(answer >> 40 & 0xFFFF);
+}
+
+/* Whether a row of check many says this of a sheet: number and place, two
+ * numbers for each sheet. */
+static inline bool row_says(const uint32_t *row, size_t sheet, uint64_t answer)
+{
+    return row[2 * sheet] == number_in(answer)
+        && row[2 * sheet + 1] == place_in(answer);
 }
 
 static inline bool is_verdict(uint64_t answer)

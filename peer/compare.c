@@ -13,9 +13,14 @@
 #include <stdlib.h>
 #include <string.h>
 
-enum { MARGIN = 64, ROOM = MOST_SHEET_BYTES + MOST_ADDED + 2 * MARGIN };
+enum {
+    MARGIN = 64,
+    ROOM = MOST_SHEET_BYTES + MOST_ADDED + 2 * MARGIN,
+    ROW_ROOM = MOST_ROW + 2 * MARGIN
+};
 
-/* The sheets stand between margins that nobody may write. */
+/* What is written, a sheet or a row, stands between margins that nobody may
+ * write. */
 struct one_case {
     uint64_t seed, number;
     uint64_t answer; /* the last that work out gave */
@@ -24,6 +29,8 @@ struct one_case {
     uint8_t graph[MOST_GRAPH_BYTES + MOST_ADDED];
     uint8_t graph_before[MOST_GRAPH_BYTES + MOST_ADDED];
     uint8_t ours[ROOM], theirs[ROOM];
+    uint8_t sheets[MOST_SHEETS_BYTES], sheets_before[MOST_SHEETS_BYTES];
+    uint32_t our_row[ROW_ROOM], their_row[ROW_ROOM];
 };
 
 /* What came of each comparison. */
@@ -31,6 +38,7 @@ struct tallies {
     struct tally wrong_length, work_out, check, one_shot, session, fitting;
     struct tally damaged, lines, opening;
     struct openings openings;
+    struct many_tally many;
 };
 
 /* Both sides are lent the same bytes. */
@@ -112,6 +120,44 @@ static bool compare_check(struct one_case *c, size_t sheet_len,
     return agree(c, "check", ours, theirs);
 }
 
+/* A row says what Snellair's own check does of each sheet alone. */
+static bool compare_alone(const struct one_case *c, struct lengths lent,
+                          struct many_tally *tally)
+{
+    const uint32_t *row = c->their_row + MARGIN;
+    size_t one = 2 * lent.sheets / lent.row;
+    for (size_t i = 0; i < lent.row / 2; i++) {
+        uint64_t alone = snellair_check(c->graph, c->graph_len,
+                                        c->sheets + i * one, one);
+        tally_note(&tally->sheets, alone);
+        if (!row_says(row, i, alone))
+            return blame(c, "check many", "not as for the sheet alone");
+    }
+    many_tally_note_row(tally, row, lent.row);
+    return true;
+}
+
+static bool compare_check_many(struct random *r, struct one_case *c,
+                               struct lengths lent, struct many_tally *tally)
+{
+    const uint8_t *sheets = lent.sheets > 0 ? c->sheets : NULL;
+    random_fill(r, (uint8_t *)c->our_row, sizeof c->our_row);
+    memcpy(c->their_row, c->our_row, sizeof c->our_row);
+    uint64_t ours = peer_check_many(c->graph, c->graph_len, sheets, lent.sheets,
+                                    c->our_row + MARGIN, lent.row);
+    uint64_t theirs =
+        snellair_check_many(c->graph, c->graph_len, sheets, lent.sheets,
+                            c->their_row + MARGIN, lent.row);
+    tally_note(&tally->calls, ours);
+    if (!agree(c, "check many", ours, theirs))
+        return false;
+    if (memcmp(c->our_row, c->their_row, sizeof c->our_row) != 0)
+        return blame(c, "check many", "another row, or a margin written");
+    if (memcmp(c->sheets, c->sheets_before, lent.sheets) != 0)
+        return blame(c, "check many", "a sheet written");
+    return ours != 0 || compare_alone(c, lent, tally);
+}
+
 /* A graph that fits one-shot passes. */
 static bool compare_pass(struct one_case *c, struct tally *tally)
 {
@@ -180,6 +226,19 @@ static void work_out_for_other_opening(struct random *r, struct one_case *c)
     size_t length = draft_write(&other, graph);
     peer_work_out(graph, length, c->ours + MARGIN,
                   sheet_bytes(draft_shape(&other)));
+}
+
+/* Each number of sheets in turn, and then wrong lengths. */
+static bool compare_many(struct random *r, struct one_case *c,
+                         const uint8_t *given, struct many_tally *tally)
+{
+    unsigned count = 1 + (unsigned)(c->number % MOST_SHEETS);
+    struct lengths lent =
+        generate_sheets(r, count, &c->draft, given, c->sheets);
+    memcpy(c->sheets_before, c->sheets, lent.sheets);
+    struct lengths wrong = generate_wrong_lengths(r, count, lent);
+    return compare_check_many(r, c, lent, tally)
+        && compare_check_many(r, c, wrong, tally);
 }
 
 /* Graphs that fit a profile, as they are and with one field changed. */
@@ -288,7 +347,9 @@ static bool compare_case(struct one_case *c, struct tallies *tallies)
             return false;
     }
     work_out_for_other_opening(&r, c);
+    const uint8_t *given = random_below(&r, 2) ? worked : c->ours + MARGIN;
     return compare_check(c, right, &tallies->check)
+        && compare_many(&r, c, given, &tallies->many)
         && compare_lines(&r, c, right, &tallies->lines)
         && compare_profiles(c, tallies)
         && compare_opening(&r, c, one, tallies)
@@ -307,6 +368,7 @@ static void print_tallies(const struct tallies *t)
     tally_print("other lines", &t->lines);
     tally_print("work out with another opening stock", &t->opening);
     openings_print(&t->openings);
+    many_tally_print(&t->many);
 }
 
 /* Why the cases say too little, or NULL. */
@@ -316,6 +378,8 @@ static const char *lack(const struct tallies *t, uint64_t cases)
         return "fewer than half of the graphs came to a verdict";
     if (!openings_suffice(&t->openings))
         return "too few opening stocks made a difference";
+    if (!many_tally_suffices(&t->many))
+        return "the rows of check many say too little";
     return NULL;
 }
 

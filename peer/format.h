@@ -16,6 +16,7 @@ enum {
     MOST_CALLS = 512,
     MOST_CATCHES = 512,
     MOST_TYPES = 6,
+    MOST_SHEETS = 20, /* that check many takes */
     EXCEPTIONS = 8,  /* each has a parent, one byte, just before the catches */
     NO_PARENT = 255,
     TRAILER_BYTES = 14,

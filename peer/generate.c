@@ -872,3 +872,41 @@ size_t generate_sheet(struct random *r, enum sheet_kind kind,
     }
     return length;
 }
+
+struct lengths generate_sheets(struct random *r, unsigned count,
+                               const struct draft *d, const uint8_t *given,
+                               uint8_t *sheets)
+{
+    struct lengths lent = {0, 2 * count};
+    for (unsigned i = 0; i < count; i++)
+        lent.sheets += generate_sheet(r, random_below(r, WRONG_LENGTH), d,
+                                      given, sheets + lent.sheets);
+    return lent;
+}
+
+struct lengths generate_wrong_lengths(struct random *r, unsigned count,
+                                      struct lengths right)
+{
+    size_t one = right.sheets / count;
+    size_t part = 1 + random_below(r, (unsigned)one - 1);
+    switch (random_below(r, 8)) {
+    case 0:
+        return (struct lengths){0, 0};
+    case 1:
+        return (struct lengths){(MOST_SHEETS + 1) * one, 2 * MOST_SHEETS + 2};
+    case 2: /* the row is for the whole sheets, or for one more */
+        return (struct lengths){right.sheets - part, right.row - 2};
+    case 3:
+        return (struct lengths){right.sheets - part, right.row};
+    case 4:
+        return (struct lengths){right.sheets + part, right.row};
+    case 5: /* one number for each sheet */
+        return (struct lengths){right.sheets, count};
+    case 6:
+        return (struct lengths){right.sheets - one, right.row};
+    default:
+        right.row += 1 + random_below(r, MOST_ROW);
+        right.row %= MOST_ROW + 1;
+        return right;
+    }
+}

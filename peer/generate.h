@@ -87,4 +87,25 @@ size_t generate_sheet(struct random *r, enum sheet_kind kind,
                       const struct draft *d, const uint8_t *given,
                       uint8_t *sheet);
 
+/* What check many is lent: bytes of sheets, numbers of the row. */
+struct lengths {
+    size_t sheets, row;
+};
+
+/* The most that is generated for it. */
+enum {
+    MOST_ROW = 2 * (MOST_SHEETS + 1) + 1,
+    MOST_SHEETS_BYTES = (MOST_SHEETS + 1) * MOST_SHEET_BYTES
+};
+
+/* Makes so many sheets end to end, each of any kind with the right length. */
+struct lengths generate_sheets(struct random *r, unsigned count,
+                               const struct draft *d, const uint8_t *given,
+                               uint8_t *sheets);
+
+/* Takes lengths for so many sheets to some that do not go together, or are of
+ * too many sheets or of none. */
+struct lengths generate_wrong_lengths(struct random *r, unsigned count,
+                                      struct lengths right);
+
 #endif

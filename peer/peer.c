@@ -756,18 +756,42 @@ static uint64_t judge_rules(const struct graph *g, const uint8_t *sheet)
     return t.rule > RULES ? 0 : packed_type(12, t.type, t.rule);
 }
 
+/* Answers 11 to 13 and 0, of a sheet with the right length. */
+static uint64_t judge_sheet(const struct graph *g, const uint8_t *sheet)
+{
+    for (unsigned block = 0; block < block_count(g->shape); block++)
+        if (is_ill_formed(g, sheet, block))
+            return packed(11, block_at(g->shape, block));
+    uint64_t broken = judge_rules(g, sheet);
+    return broken != 0 ? broken : verdict(g, sheet);
+}
+
 uint64_t peer_check(const uint8_t *graph, size_t graph_len,
                     const uint8_t *sheet, size_t sheet_len)
 {
     struct graph g;
     uint64_t refusal = judge(&g, graph, graph_len, sheet_len);
+    return refusal != 0 ? refusal : judge_sheet(&g, sheet);
+}
+
+uint64_t peer_check_many(const uint8_t *graph, size_t graph_len,
+                         const uint8_t *sheets, size_t sheets_len,
+                         uint32_t *row, size_t row_len)
+{
+    struct graph g;
+    uint64_t refusal = judge_file(&g, graph, graph_len);
     if (refusal != 0)
         return refusal;
-    for (unsigned block = 0; block < block_count(g.shape); block++)
-        if (is_ill_formed(&g, sheet, block))
-            return packed(11, block_at(g.shape, block));
-    uint64_t broken = judge_rules(&g, sheet);
-    return broken != 0 ? broken : verdict(&g, sheet);
+    size_t one = sheet_bytes(g.shape), count = sheets_len / one;
+    if (sheets_len % one != 0 || count < 1 || count > MOST_SHEETS
+        || row_len != 2 * count)
+        return packed(24, 0);
+    for (size_t i = 0; i < count; i++) {
+        uint64_t answer = judge_sheet(&g, sheets + i * one);
+        row[2 * i] = number_in(answer);
+        row[2 * i + 1] = place_in(answer);
+    }
+    return 0;
 }
 
 /* ---- Profiles ---- */

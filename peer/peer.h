@@ -20,6 +20,14 @@ uint64_t peer_work_out_sweeping(const uint8_t *graph, size_t graph_len,
 uint64_t peer_check(const uint8_t *graph, size_t graph_len,
                     const uint8_t *sheet, size_t sheet_len);
 
+/* Checks 1 to 20 sheets, end to end, against one graph. The row has two numbers
+ * for each: the number and the place that peer_check answers for it alone. A
+ * refusal of the file, or else 24 for lengths that do not go together, leaves
+ * the row as it was. */
+uint64_t peer_check_many(const uint8_t *graph, size_t graph_len,
+                         const uint8_t *sheets, size_t sheets_len,
+                         uint32_t *row, size_t row_len);
+
 /* Document 02's profiles: 0 fits, 14 doesn't, with the lowest node that breaks
  * it. */
 uint64_t peer_one_shot(const uint8_t *graph, size_t graph_len);

@@ -52,4 +52,39 @@ static inline void tally_print(const char *name, const struct tally *t)
     printf("\n");
 }
 
+/* Of check many: the calls, the sheets of those that were not refused, and the
+ * rows that do not say the same of all their sheets. */
+struct many_tally {
+    struct tally calls, sheets;
+    unsigned long mixed;
+};
+
+static inline void many_tally_note_row(struct many_tally *t,
+                                       const uint32_t *row, size_t row_len)
+{
+    for (size_t i = 2; i < row_len; i++)
+        if (row[i] != row[i - 2]) {
+            t->mixed++;
+            return;
+        }
+}
+
+static inline void many_tally_print(const struct many_tally *t)
+{
+    tally_print("check many", &t->calls);
+    tally_print("its sheets", &t->sheets);
+    printf("its rows that say several things: %lu\n", t->mixed);
+}
+
+/* Whether most rows would show an answer given for another sheet, and all that
+ * a sheet may be answered came. */
+static inline bool many_tally_suffices(const struct many_tally *t)
+{
+    static const unsigned numbers[4] = {0, 11, 12, 13};
+    for (unsigned i = 0; i < 4; i++)
+        if (t->sheets.times[numbers[i]] < tally_all(&t->sheets) / 32)
+            return false;
+    return 2 * t->mixed >= t->calls.times[0];
+}
+
 #endif

@@ -1,8 +1,8 @@
 /* Tests the peer alone: effects against their meaning, document 01's figures,
  * families of exceptions, profiles, one engine against the other, check against
- * work out and against the rules word by word, lines, opening stocks, and the
- * worked-out sheet against runs. Ends with status 1 at the first thing that
- * fails. */
+ * work out and against the rules word by word, lines, opening stocks, many
+ * sheets in one call, and the worked-out sheet against runs. Ends with status 1
+ * at the first thing that fails. */
 #include "answer.h"
 #include "effect.h"
 #include "generate.h"
@@ -1163,6 +1163,113 @@ static void test_openings(unsigned cases, struct draft *d, uint8_t *sheet)
     expect(openings_suffice(&seen), "enough to see", cases);
 }
 
+/* ---- Check many ---- */
+
+/* Lends just what the lengths say. A refusal must leave the row. */
+static uint64_t check_many(const uint8_t *graph, size_t length,
+                           const uint8_t *sheets, struct lengths lent,
+                           uint32_t row[MOST_ROW])
+{
+    size_t row_size = lent.row * sizeof row[0];
+    uint8_t *lent_graph = copy_of(graph, length);
+    uint8_t *lent_sheets = copy_of(sheets, lent.sheets);
+    uint32_t *lent_row = (void *)copy_of((const uint8_t *)row, row_size);
+    uint64_t answer = peer_check_many(lent_graph, length, lent_sheets,
+                                      lent.sheets, lent_row, lent.row);
+    if (answer != 0)
+        expect(memcmp(row, lent_row, row_size) == 0, "row left", answer);
+    memcpy(row, lent_row, row_size);
+    free(lent_graph);
+    free(lent_sheets);
+    free(lent_row);
+    return expect_line(graph, length, answer);
+}
+
+/* The file's own answer, which check gives before it minds that a sheet of no
+ * bytes is too short; then 24. */
+static uint64_t many_due(const uint8_t *graph, size_t length,
+                         struct lengths lent)
+{
+    uint64_t answer = check(graph, length, graph, 0);
+    if (answer != packed(10, 0))
+        return answer;
+    size_t one = sheet_bytes(shape_of(graph, length));
+    for (size_t count = 1; count <= 20; count++)
+        if (lent.sheets == count * one && lent.row == 2 * count)
+            return 0;
+    return packed(24, 0);
+}
+
+static void test_many_of(const uint8_t *graph, size_t length,
+                         const uint8_t *sheets, struct lengths lent,
+                         struct many_tally *seen)
+{
+    uint32_t row[MOST_ROW];
+    memset(row, 0xA5, sizeof row);
+    uint64_t answer = check_many(graph, length, sheets, lent, row);
+    expect(answer == many_due(graph, length, lent), "check many", answer);
+    tally_note(&seen->calls, answer);
+    if (answer != 0)
+        return;
+    size_t count = lent.row / 2, one = lent.sheets / count;
+    for (size_t i = 0; i < count; i++) {
+        uint64_t alone = check(graph, length, sheets + i * one, one);
+        expect(row_says(row, i, alone), "as for the sheet alone", i);
+        tally_note(&seen->sheets, alone);
+    }
+    many_tally_note_row(seen, row, lent.row);
+}
+
+/* File A's sheet over and over: each number of bytes with the row that rounding
+ * down would take, then each number of sheets with each row. */
+static void test_lengths_of_many(struct draft *d, uint8_t *sheets)
+{
+    struct many_tally seen = {.mixed = 0};
+    uint8_t graph[MOST_GRAPH_BYTES];
+    draft_file_a(d, 2, 2);
+    size_t length = draft_write(d, graph), one = sheet_bytes(draft_shape(d));
+    expect(work_out_draft(d, sheets) == 0, "file A", 0);
+    for (size_t i = 1; i <= MOST_SHEETS; i++)
+        memcpy(sheets + i * one, sheets, one);
+    for (size_t bytes = 0; bytes <= (MOST_SHEETS + 1) * one; bytes++) {
+        struct lengths lent = {bytes, 2 * (bytes / one)};
+        test_many_of(graph, length, sheets, lent, &seen);
+    }
+    expect(seen.calls.times[0] == MOST_SHEETS, "1 to 20 sheets", 0);
+    for (size_t count = 0; count <= MOST_SHEETS + 1; count++)
+        for (size_t row = 0; row <= MOST_ROW; row++) {
+            struct lengths lent = {count * one, row};
+            test_many_of(graph, length, sheets, lent, &seen);
+        }
+    expect(seen.calls.times[0] == 2 * MOST_SHEETS, "two numbers a sheet", 0);
+    expect(peer_check_many(graph, length, NULL, 0, NULL, 0) == packed(24, 0),
+           "nothing lent", 0);
+}
+
+/* Each number of sheets in turn; then wrong lengths, and a damaged file. */
+static void test_many(unsigned cases, struct draft *d, uint8_t *sheet)
+{
+    static uint8_t sheets[MOST_SHEETS_BYTES];
+    struct many_tally seen = {.mixed = 0};
+    test_lengths_of_many(d, sheets);
+    for (unsigned i = 0; i < cases; i++) {
+        struct random r = random_of(SEED + 9, i);
+        uint8_t graph[MOST_GRAPH_BYTES + MOST_ADDED];
+        unsigned count = 1 + i % MOST_SHEETS;
+        generate_graph(&r, &small, d);
+        size_t length = draft_write(d, graph);
+        work_out_draft(d, sheet);
+        struct lengths lent = generate_sheets(&r, count, d, sheet, sheets);
+        test_many_of(graph, length, sheets, lent, &seen);
+        struct lengths wrong = generate_wrong_lengths(&r, count, lent);
+        test_many_of(graph, length, sheets, wrong, &seen);
+        length = generate_damage(&r, d, graph, length);
+        test_many_of(graph, length, sheets, i % 2 == 0 ? lent : wrong, &seen);
+    }
+    many_tally_print(&seen);
+    expect(many_tally_suffices(&seen), "enough to see", cases);
+}
+
 /* ---- The sheet against runs ---- */
 
 /* What runs bring is never less than the sheet says; answers whether it is
@@ -1243,6 +1350,7 @@ int main(int argc, char **argv)
     test_damaged_files(2 * cases, &d, sheet);
     test_lines(cases, &d, sheet);
     test_openings(cases, &d, sheet);
+    test_many(cases, &d, sheet);
     test_runs(2 * cases, &d, sheet);
     printf("all passed\n");
     return 0;
