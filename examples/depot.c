@@ -1,14 +1,18 @@
 /* The depot's tool: takes a graph file and any number of sheet files, checks
  * the sheets against the graph, twenty in a call, so that the graph is judged
- * once for twenty, and prints one line for each: its file's name, and what was
- * found. Ends with 0 where every sheet passes, 1 where one doesn't, 2 where the
- * graph is refused. */
+ * once at the start and once for each call, and prints one line for each sheet:
+ * its file's name, and what was found. Ends with 0 where every sheet passes, 1
+ * where one doesn't, 2 where the graph is refused, 64 for a wrong call, 66 where
+ * a file can't be read, 74 where a line can't be written. A sheet that can't be
+ * read keeps no other from being checked. */
 #include "snellair.h"
 
 #include <stdio.h>
 #include <stdlib.h>
 
 enum { MOST = (int)SNELLAIR_MOST_SHEETS };
+
+static const size_t unread = (size_t)-1;
 
 static uint8_t graph[SNELLAIR_LONGEST_GRAPH + 1];
 static size_t graph_length;
@@ -19,17 +23,21 @@ static struct {
     uint8_t sheets[SNELLAIR_MOST_SHEETS * SNELLAIR_LONGEST_SHEET + 1];
     const char *names[MOST];
     size_t size, count;
-    int all_pass;
+    int all_pass, all_read;
 } batch;
 
-/* Reads at most `room` bytes; ends the program where a file can't be read. */
+/* Reads at most `room` bytes; `unread` where the file can't be read. */
 static size_t read_file(const char *path, uint8_t *bytes, size_t room)
 {
     FILE *file = fopen(path, "rb");
-    size_t length = file == NULL ? 0 : fread(bytes, 1, room, file);
-    if (file == NULL || ferror(file)) {
+    if (file == NULL) {
         perror(path);
-        exit(66);
+        return unread;
+    }
+    size_t length = fread(bytes, 1, room, file);
+    if (ferror(file)) {
+        perror(path);
+        length = unread;
     }
     fclose(file);
     return length;
@@ -64,8 +72,12 @@ static void print_line(const char *name, uint32_t number, uint32_t place)
     case SNELLAIR_OVERDRAWN:
         printf("%s: overdrawn at node %lu\n", name, at);
         break;
-    default:
+    case SNELLAIR_BAD_SHEET:
         printf("%s: the length is wrong\n", name);
+        break;
+    default:
+        printf("%s: answer %lu, place %lu, which this tool doesn't know\n",
+               name, (unsigned long)number, at);
     }
     batch.all_pass = 0;
 }
@@ -90,14 +102,48 @@ static void check_batch(void)
 static void add_sheet(const char *name)
 {
     uint8_t *sheet = batch.sheets + batch.count * batch.size;
-    if (read_file(name, sheet, batch.size + 1) != batch.size) {
+    size_t length = read_file(name, sheet, batch.size + 1);
+    if (length != batch.size) {
         check_batch();
-        print_line(name, SNELLAIR_BAD_SHEET, 0);
+        if (length == unread) {
+            printf("%s: can't be read\n", name);
+            batch.all_read = 0;
+        } else {
+            print_line(name, SNELLAIR_BAD_SHEET, 0);
+        }
         return;
     }
     batch.names[batch.count++] = name;
     if (batch.count == SNELLAIR_MOST_SHEETS)
         check_batch();
+}
+
+/* The graph is well formed; else its refusal is printed. With no sheet such a
+ * graph gets the answer of that, and one above the longest is refused by its
+ * length, since it was not read to its end. */
+static int graph_is_good(const char *name)
+{
+    uint64_t answer =
+        snellair_check_many(graph, graph_length, NULL, 0, NULL, 0);
+    if (graph_length > SNELLAIR_LONGEST_GRAPH)
+        answer = SNELLAIR_BAD_LENGTH;
+    if (SNELLAIR_NUMBER(answer) == SNELLAIR_BAD_ROW)
+        return 1;
+    printf("%s: refused %u %lu\n", name, SNELLAIR_NUMBER(answer),
+           SNELLAIR_PLACE(answer));
+    return 0;
+}
+
+/* Of all that was to be done. */
+static int status(void)
+{
+    if (fflush(stdout) != 0 || ferror(stdout)) {
+        perror("depot");
+        return 74;
+    }
+    if (!batch.all_read)
+        return 66;
+    return batch.all_pass ? 0 : 1;
 }
 
 int main(int argc, char **argv)
@@ -107,18 +153,14 @@ int main(int argc, char **argv)
         return 64;
     }
     graph_length = read_file(argv[1], graph, sizeof graph);
-    /* With no sheet a graph that is well formed gets the answer of that. */
-    uint64_t answer =
-        snellair_check_many(graph, graph_length, NULL, 0, NULL, 0);
-    if (SNELLAIR_NUMBER(answer) != SNELLAIR_BAD_ROW) {
-        printf("%s: refused %u %lu\n", argv[1], SNELLAIR_NUMBER(answer),
-               SNELLAIR_PLACE(answer));
+    if (graph_length == unread)
+        return 66;
+    if (!graph_is_good(argv[1]))
         return 2;
-    }
     batch.size = sheet_length();
-    batch.all_pass = 1;
+    batch.all_pass = batch.all_read = 1;
     for (int i = 2; i < argc; i++)
         add_sheet(argv[i]);
     check_batch();
-    return batch.all_pass ? 0 : 1;
+    return status();
 }

@@ -39,10 +39,10 @@ uint64_t snellair_check(const uint8_t *graph, size_t graph_len,
  * SNELLAIR_PASS says that all of the row is written: row[2 * i] is the number
  * and row[2 * i + 1] the place that snellair_check answers for sheet i alone:
  * SNELLAIR_PASS, SNELLAIR_BAD_BLOCK, SNELLAIR_BROKEN_RULE or
- * SNELLAIR_OVERDRAWN. (Type and line have no room there.) Where a number in it
- * is SNELLAIR_PASS, no run of that graph overdraws. A graph that is refused
- * gets its refusal; else any other lengths are answered SNELLAIR_BAD_ROW. After
- * a refusal the row is as it was. */
+ * SNELLAIR_OVERDRAWN. (Type and line have no room there.) Where row[2 * i] is
+ * SNELLAIR_PASS, no run of that graph overdraws. A graph that is refused gets
+ * its refusal; else any other lengths are answered SNELLAIR_BAD_ROW. After a
+ * refusal the row is as it was. */
 uint64_t snellair_check_many(const uint8_t *graph, size_t graph_len,
                              const uint8_t *sheets, size_t sheets_len,
                              uint32_t *row, size_t row_len);
@@ -84,8 +84,10 @@ uint64_t snellair_session(const uint8_t *graph, size_t graph_len);
 #define SNELLAIR_LINE(answer) ((unsigned)((answer) >> 40 & 0xFFFFu))
 
 /* The numbers, and what the place tells. 0 and 13 are verdicts, the others
- * refusals; 11 and 12 come from check only, 14 from the profiles only, 24 from
- * the check of many sheets only, in place of 10, and 26 from the listing only.
+ * refusals; 11 and 12 come from check only, alone or in the row of many sheets,
+ * 14 from the profiles only, 24 from the check of many sheets only, in place of
+ * 10, and 26 from the listing only. From that check 0 only says that the row is
+ * written.
  * The first that applies is given: 26, then 1 to 7, 15, 8, 17, 9, then 24 or 10
  * to 14, and 0 where none does; within a table the lowest row.
  * 12 and 13 also name a type: 13 that of the draw, 12 the lowest that fails in

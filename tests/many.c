@@ -181,7 +181,11 @@ static int is_first(const struct pair *p)
 int main(int argc, char **argv)
 {
     size_t graphs = 0;
-    for (int i = 1; i < argc && i <= PAIRS; i++)
+    if (argc - 1 > PAIRS) {
+        printf("many: more than %d pairs\n", PAIRS);
+        return 1;
+    }
+    for (int i = 1; i < argc; i++)
         read_pair(argv[i], &pairs[pair_count++]);
     for (size_t i = 0; i < pair_count; i++)
         if (is_first(&pairs[i])) {
