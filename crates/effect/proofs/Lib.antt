@@ -5,6 +5,7 @@ pub mod Bit
 pub mod Rights
 pub mod Single
 pub mod Six
+pub mod Filled
 pub mod Laws
 pub mod Again
 pub mod Potential

@@ -72,12 +72,6 @@ module _ {A : Type 0} (f : ℕ → A) {p q u v x y : A} (a : p ≡ f 0) (b : q �
 pub made-effect : {r : Effect} (f : ℕ → One) {p q u v x y : One} → p ≡ f 0 → q ≡ f 1 → u ≡ f 2 → v ≡ f 3 → x ≡ f 4 → y ≡ f 5 → r ≡ effectOf (among p q u v x y) → r ≡ effectOf f
 made-effect f a b c d e g h = h ∙ ap effectOf (each-is f a b c d e g)
 
-pub made-stock : {r : Stock} (f : ℕ → Held) {p q u v x y : Held} → p ≡ f 0 → q ≡ f 1 → u ≡ f 2 → v ≡ f 3 → x ≡ f 4 → y ≡ f 5 → r ≡ stockOf (among p q u v x y) → r ≡ stockOf f
-made-stock f a b c d e g h = h ∙ ap stockOf (each-is f a b c d e g)
-
-pub made-test : {r : Bool} (f : ℕ → Bool) {p q u v x y : Bool} → p ≡ f 0 → q ≡ f 1 → u ≡ f 2 → v ≡ f 3 → x ≡ f 4 → y ≡ f 5 → r ≡ allSix (among p q u v x y) → r ≡ allSix f
-made-test f a b c d e g h = h ∙ ap allSix (each-is f a b c d e g)
-
 pub made-lowest : {r : ℕ} (f : ℕ → Bool) {p q u v x y : Bool} → p ≡ f 0 → q ≡ f 1 → u ≡ f 2 → v ≡ f 3 → x ≡ f 4 → y ≡ f 5 → r ≡ lowestNot (among p q u v x y) → r ≡ lowestNot f
 unfolding lowest
 made-lowest f a b c d e g h = h ∙ ap lowestNot (each-is f a b c d e g)

@@ -6,7 +6,7 @@ ghost use Prim.Native.Nat.{_<_, min};
 ghost use lib.Dec.{eqb};
 ghost use Rattle.single.specs.Single.{applyOne};
 ghost use Rattle.single.specs.Formulas.{normalOne, thenOne, timesOne, bothOne, atMostOne, heldAtMost, lowerHeld};
-ghost use Rattle.effect.specs.Six.{allSix, among, heldAt, stockOf, oneAt, effectOf};
+ghost use Rattle.effect.specs.Six.{among, heldAt, oneAt, effectOf};
 ghost use Rattle.effect.specs.Whole.{lowestNot, normalOf, nothingDone, oneIf, drawOf, grantOf, applyOf, thenOf, timesOf, bothOf, atMostOf, stockAtMostOf, failsOf, stockFailsOf, lowerOf, coversOf};
 ghost use Rattle.effect.specs.Coordinate.{Coordinate, at};
 ghost use Rattle.effect.specs.Meaning.{Below, AtMost, BelowAt, AtMostAt, LowestFailing, replaced, oneTaken, againOf, Covers, Normal, Leaves, Exactly};
@@ -45,17 +45,6 @@ fn one_at(e: Effect, k: usize) -> One
     }
 }
 
-pub fn stock_of(p: Held, q: Held, r: Held, s: Held, t: Held, u: Held) -> Stock
-    ensures { λ x. ⌜ x ≡ stockOf (among p q r s t u) ⌝ }
-{
-    let a = [p.rights, q.rights, r.rights, s.rights, t.rights, u.rights];
-    let b = [p.count, q.count, r.count, s.count, t.count, u.count];
-    Stock {
-        rights: a,
-        counts: b,
-    }
-}
-
 pub fn effect_of(p: One, q: One, r: One, s: One, t: One, u: One) -> Effect
     ensures { λ x. ⌜ x ≡ effectOf (among p q r s t u) ⌝ }
 {
@@ -76,12 +65,6 @@ pub fn effect_of(p: One, q: One, r: One, s: One, t: One, u: One) -> Effect
         cap: c,
         drop: d,
     }
-}
-
-fn all_six(p: bool, q: bool, r: bool, s: bool, t: bool, u: bool) -> bool
-    ensures { λ x. ⌜ x ≡ allSix (among p q r s t u) ⌝ }
-{
-    p & (q & (r & (s & (t & u))))
 }
 
 // The lowest of the six that does not hold, or 6.
@@ -165,28 +148,26 @@ fn lower_at(s: Stock, t: Stock, k: usize) -> Held
     single::lower(held_at(s, k), held_at(t, k))
 }
 
-// x where the type is hit, else nothing done.
-fn one_if(hit: bool, x: One) -> One
-    ensures { λ r. ⌜ r ≡ oneIf hit x ⌝ }
+// The effect x of type n.
+fn only(n: usize, x: One) -> Effect
+    ensures { λ r. ⌜ r ≡ effectOf (λ k. oneIf (eqb k n) x) ⌝ }
 {
-    if hit {
-        return x;
+    let mut i = [0; 6];
+    let mut m = [65535; 6];
+    let mut c = [255; 6];
+    let mut d = [0; 6];
+    if n < 6 {
+        i[n] = x.keepin;
+        m[n] = x.keepmax;
+        c[n] = x.cap;
+        d[n] = x.drop;
     }
-    single::nothing_done()
-}
-
-// The effect x of type t.
-fn only(t: usize, x: One) -> Effect
-    ensures { λ r. ⌜ r ≡ effectOf (λ k. oneIf (eqb k t) x) ⌝ }
-{
-    effect_of(
-        one_if(0 == t, x),
-        one_if(1 == t, x),
-        one_if(2 == t, x),
-        one_if(3 == t, x),
-        one_if(4 == t, x),
-        one_if(5 == t, x),
-    )
+    Effect {
+        keepin: i,
+        keepmax: m,
+        cap: c,
+        drop: d,
+    }
 }
 
 pub fn nothing_done() -> Effect
@@ -218,28 +199,32 @@ pub fn normal(e: Effect) -> bool
     ensures equals { λ r. ⌜ r ≡ normalOf e ⌝ }
     ensures means { λ r. ⌜ Exactly r (Normal e) ⌝ }
 {
-    all_six(
-        normal_at(e, 0),
-        normal_at(e, 1),
-        normal_at(e, 2),
-        normal_at(e, 3),
-        normal_at(e, 4),
-        normal_at(e, 5),
-    )
+    let mut ok = true;
+    let mut j = 0;
+    while j < 6 {
+        ok = ok & normal_at(e, j);
+        j += 1;
+    }
+    ok
 }
 
 // The stock that an effect leaves of a stock.
 pub fn apply(e: Effect, s: Stock) -> Stock
     ensures { λ r. ⌜ r ≡ applyOf e s ⌝ }
 {
-    stock_of(
-        applied_at(e, s, 0),
-        applied_at(e, s, 1),
-        applied_at(e, s, 2),
-        applied_at(e, s, 3),
-        applied_at(e, s, 4),
-        applied_at(e, s, 5),
-    )
+    let mut a = [0; 6];
+    let mut b = [0; 6];
+    let mut j = 0;
+    while j < 6 {
+        let left = applied_at(e, s, j);
+        a[j] = left.rights;
+        b[j] = left.count;
+        j += 1;
+    }
+    Stock {
+        rights: a,
+        counts: b,
+    }
 }
 
 // The first effect, then the second.
@@ -247,14 +232,25 @@ pub fn then(a: Effect, b: Effect) -> Effect
     ensures equals { λ r. ⌜ r ≡ thenOf a b ⌝ }
     ensures means { λ r. ⌜ Leaves r (λ i s. at i (applyOf b (applyOf a s))) ⌝ }
 {
-    effect_of(
-        then_at(a, b, 0),
-        then_at(a, b, 1),
-        then_at(a, b, 2),
-        then_at(a, b, 3),
-        then_at(a, b, 4),
-        then_at(a, b, 5),
-    )
+    let mut i = [0; 6];
+    let mut m = [0; 6];
+    let mut c = [0; 6];
+    let mut d = [0; 6];
+    let mut k = 0;
+    while k < 6 {
+        let x = then_at(a, b, k);
+        i[k] = x.keepin;
+        m[k] = x.keepmax;
+        c[k] = x.cap;
+        d[k] = x.drop;
+        k += 1;
+    }
+    Effect {
+        keepin: i,
+        keepmax: m,
+        cap: c,
+        drop: d,
+    }
 }
 
 // The effect taken n times, one after the other; 0 is read as 1. It is as dear as one `then`, whatever n is.
@@ -277,14 +273,25 @@ pub fn both(a: Effect, b: Effect) -> Effect
     ensures equals { λ r. ⌜ r ≡ bothOf a b ⌝ }
     ensures means { λ r. ⌜ Leaves r (λ i s. min (at i (applyOf a s)) (at i (applyOf b s))) ⌝ }
 {
-    effect_of(
-        both_at(a, b, 0),
-        both_at(a, b, 1),
-        both_at(a, b, 2),
-        both_at(a, b, 3),
-        both_at(a, b, 4),
-        both_at(a, b, 5),
-    )
+    let mut i = [0; 6];
+    let mut m = [0; 6];
+    let mut c = [0; 6];
+    let mut d = [0; 6];
+    let mut j = 0;
+    while j < 6 {
+        let x = both_at(a, b, j);
+        i[j] = x.keepin;
+        m[j] = x.keepmax;
+        c[j] = x.cap;
+        d[j] = x.drop;
+        j += 1;
+    }
+    Effect {
+        keepin: i,
+        keepmax: m,
+        cap: c,
+        drop: d,
+    }
 }
 
 // The lowest type at which one effect leaves more than another, of some stock, or 6.
@@ -307,14 +314,14 @@ pub fn stock_fails(s: Stock, t: Stock) -> usize
     ensures equals { λ r. ⌜ r ≡ stockFailsOf s t ⌝ }
     ensures means { λ r. ⌜ LowestFailing (λ k. BelowAt k s t) r ⌝ }
 {
-    lowest_not(
-        stock_at_most_at(s, t, 0),
-        stock_at_most_at(s, t, 1),
-        stock_at_most_at(s, t, 2),
-        stock_at_most_at(s, t, 3),
-        stock_at_most_at(s, t, 4),
-        stock_at_most_at(s, t, 5),
-    )
+    let mut j = 0;
+    while j < 6 {
+        if !stock_at_most_at(s, t, j) {
+            return j;
+        }
+        j += 1;
+    }
+    6
 }
 
 // One effect leaves at most what another leaves, of every stock.
@@ -338,14 +345,19 @@ pub fn lower(s: Stock, t: Stock) -> Stock
     ensures equals { λ r. ⌜ r ≡ lowerOf s t ⌝ }
     ensures means { λ r. ⌜ ((i : Coordinate) → at i r ≡ min (at i s) (at i t)) ⌝ }
 {
-    stock_of(
-        lower_at(s, t, 0),
-        lower_at(s, t, 1),
-        lower_at(s, t, 2),
-        lower_at(s, t, 3),
-        lower_at(s, t, 4),
-        lower_at(s, t, 5),
-    )
+    let mut a = [0; 6];
+    let mut b = [0; 6];
+    let mut j = 0;
+    while j < 6 {
+        let x = lower_at(s, t, j);
+        a[j] = x.rights;
+        b[j] = x.count;
+        j += 1;
+    }
+    Stock {
+        rights: a,
+        counts: b,
+    }
 }
 
 // The stock has every right drawn of type t, and a count of at least 1.

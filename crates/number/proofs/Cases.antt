@@ -1,13 +1,13 @@
 -- Each definition of `Number` at each of its cases, as an equation under the facts that lead there.
 use Prim.Native.Nat.{ℕ, _+_, _-_, _*_, _≤_, _<_, min, max}
 use mathlib.Core.Path.{_≡_, refl, sym, _∙_, ap}
-use mathlib.Core.Bool.{Bool, true, false, _||_}
+use mathlib.Core.Bool.{Bool, true, false, _&&_, _||_, not}
 use native.Mathlib.Omega.{arith}
-use native.Mathlib.Decide.{ℕ-discrete, decLe}
+use native.Mathlib.Decide.{ℕ-discrete, decLe, decLt}
 use native.Mathlib.Nat.{mul-le-mul, mul-zero, zero-mul}
-use lib.Dec.{leb, eqb}
-use borrow.Author.Tests.{eq-eqb, ne-eqb, lt-ltb, le-ltb, le-leb, lt-leb}
-use Rattle.number.specs.Number.{counted, less, left}
+use lib.Dec.{leb, ltb, eqb}
+use borrow.Author.Tests.{eq-eqb, ne-eqb, lt-ltb, le-ltb, le-leb, lt-leb, leb-true, leb-false, eqb-false}
+use Rattle.number.specs.Number.{pick, counted, less, left, countAfter}
 use Rattle.number.specs.Formulas.{written, normDrop, thenCap, sumDrop, earlierDrop, rank, largerDrop, countAtMost}
 
 pub less-endless : (r d : ℕ) → 255 ≤ r → less r d ≡ 255
@@ -112,6 +112,163 @@ pub larger-some : (d f : ℕ) → d < 256 → f < 256 → largerDrop d f ≡ max
 larger-some d f p q = elim (decLe d f) [
   | yes h ↦ omega (arith, larger-r d f (omega (arith, rank-some d p, rank-some f q)))
   | no h ↦ omega (arith, larger-l d f (omega (arith, rank-some d p, rank-some f q)))
+]
+
+-- a test of which neither side holds
+pub neither : (a b : Bool) → a || b ≡ false → (a ≡ false) × (b ≡ false)
+neither true b e = (e, cc)
+neither false b e = (refl, e)
+
+pub below-none : (d f : ℕ) → leb 256 d || leb 256 f ≡ false → (d < 256) × (f < 256)
+below-none d f e = let n = neither (leb 256 d) (leb 256 f) e in (leb-false 256 d (n .0), leb-false 256 f (n .1))
+
+-- what is left where the cap is endless: the floor leaves a finite count nothing of a drop of 255
+pub kept-is : (r d : ℕ) → pick (leb 255 r || leb 256 d) 255 (r - d) ≡ countAfter 255 d r
+unfolding countAfter
+kept-is r d = elim (decLe 256 d) [
+  | yes n ↦ elim (decLe 255 r) [
+    | yes e ↦ simp (le-leb 255 r e, left-none 255 d r n)
+    | no e ↦ simp (lt-leb 255 r (omega arith), le-leb 256 d n, left-none 255 d r n)
+  ]
+  | no n ↦ elim (decLe 255 r) [
+    | yes e ↦ simp (le-leb 255 r e, left-some 255 d r (omega arith), less-endless r d e)
+    | no e ↦ simp (lt-leb 255 r (omega arith), lt-leb 256 d (omega arith), left-some 255 d r (omega arith), less-finite r d (omega arith)) (omega arith)
+  ]
+]
+
+-- any cap: the smaller of it and what is left where it is endless
+pub after-is : (c d r : ℕ) → min (countAfter 255 d r) c ≡ countAfter c d r
+unfolding countAfter
+after-is c d r = elim (decLe 256 d) [
+  | yes n ↦ simp (left-none 255 d r n, left-none c d r n) (omega arith)
+  | no n ↦ simp (left-some 255 d r (omega arith), left-some c d r (omega arith)) (omega arith)
+]
+
+-- the cap of two effects in turn is what the second leaves of the first one's cap
+pub cap-is : (c e f : ℕ) → countAfter e f c ≡ counted (thenCap c e f)
+unfolding countAfter
+cap-is c e f = elim (decLe 256 f) [
+  | yes n ↦ simp (left-none e f c n, cap-none c e f n)
+  | no n ↦ simp (left-some e f c (omega arith), cap-some c e f (omega arith)) (omega arith)
+]
+
+-- of a cap a drop in normal form asks only whether it is 0
+pub norm-counted : (c d : ℕ) → normDrop (counted c) d ≡ normDrop c d
+unfolding normDrop
+norm-counted c d = elim (ℕ-discrete c 0) [
+  | yes z ↦ let w : counted c ≡ 0 = omega arith in simp (eq-eqb c 0 z, eq-eqb (counted c) 0 w)
+  | no z ↦ simp (ne-eqb c 0 z, ne-eqb (counted c) 0 (omega arith))
+]
+
+-- the sum with its ceiling: with both drops below 256 the sum is 255 or above where one is endless
+pub sum-ceiled : (d f : ℕ) → d < 256 → f < 256 → sumDrop d f ≡ pick (ltb (d + f) 254) (d + f) 255
+unfolding sumDrop
+sum-ceiled d f p q = simp (lt-leb 256 f q, lt-leb 256 d p)
+
+pub sum-none : (d f : ℕ) → leb 256 d || leb 256 f ≡ true → sumDrop d f ≡ 256
+unfolding sumDrop
+sum-none d f e = elim (decLe 256 f) [
+  | yes q ↦ simp (le-leb 256 f q)
+  | no q ↦ elim (decLe 256 d) [
+    | yes p ↦ simp (lt-leb 256 f (omega arith), le-leb 256 d p)
+    | no p ↦ let z : false ≡ true = simp (lt-leb 256 d (omega arith), lt-leb 256 f (omega arith)) at e in cc
+  ]
+]
+
+-- a sum is in normal form: it is never 254
+pub sum-normal : (d f : ℕ) → d < 256 → f < 256 → (sumDrop d f < 256) × (sumDrop d f ≡ 254 → ⊥)
+sum-normal d f p q = elim (decLt (d + f) 254) [
+  | yes h ↦ let s = sum-small d f h in (omega arith, λ e. omega arith)
+  | no h ↦ let s = sum-large d f q p (omega arith) in (omega arith, λ e. omega arith)
+]
+
+-- two effects in turn: the drop is none beside cap 0, and where either drop is
+module _ (cap d f : ℕ) where
+  pub then-none : eqb cap 0 || (leb 256 d || leb 256 f) ≡ true → normDrop cap (sumDrop d f) ≡ 256
+  then-none e = elim (ℕ-discrete cap 0) [
+    | yes z ↦ norm-zero cap (sumDrop d f) z
+    | no z ↦ norm-none cap (sumDrop d f) z (omega (arith, sum-none d f (simp (ne-eqb cap 0 z) at e)))
+  ]
+
+  pub then-some : eqb cap 0 || (leb 256 d || leb 256 f) ≡ false → (d < 256) × (f < 256) × (normDrop cap (sumDrop d f) ≡ pick (ltb (d + f) 254) (d + f) 255)
+  then-some e =
+      let z = neither (eqb cap 0) _ e in
+      let n = below-none d f (z .1) in
+      let k = sum-normal d f (n .0) (n .1) in
+      (n .0, n .1, norm-keep cap (sumDrop d f) (eqb-false cap 0 (z .0)) (k .0) (k .1) ∙ sum-ceiled d f (n .0) (n .1))
+
+-- the larger drop, where one is not none
+pub larger-is : (d f : ℕ) → leb 256 d && leb 256 f ≡ false → (largerDrop d f ≡ max (rank d - 1) (rank f - 1)) × (largerDrop d f < 256)
+larger-is d f e = elim (decLe 256 d) [
+  | yes p ↦
+      let q : f < 256 = leb-false 256 f (simp (le-leb 256 d p) at e) in
+      let l = larger-none-l d f p in
+      let x = rank-none d p in
+      let y = rank-some f q in
+      (omega arith, omega arith)
+  | no p ↦ elim (decLe 256 f) [
+    | yes q ↦
+        let h : d < 256 = omega arith in
+        let l = larger-none-r d f h q in
+        let x = rank-some d h in
+        let y = rank-none f q in
+        (omega arith, omega arith)
+    | no q ↦
+        let g : d < 256 = omega arith in
+        let h : f < 256 = omega arith in
+        let l = larger-some d f g h in
+        let x = rank-some d g in
+        let y = rank-some f h in
+        (omega arith, omega arith)
+  ]
+]
+
+pub larger-none : (d f : ℕ) → leb 256 d && leb 256 f ≡ true → 256 ≤ largerDrop d f
+larger-none d f e = elim (decLe 256 d) [
+  | yes p ↦ let l = larger-none-l d f p in let q : 256 ≤ f = leb-true 256 f (simp (le-leb 256 d p) at e) in omega arith
+  | no p ↦ let z : false ≡ true = simp (lt-leb 256 d (omega arith)) at e in let w : _≡_ {A = ℕ} 0 1 = cc in omega arith
+]
+
+-- both: the same of the larger drop
+module _ (cap d f : ℕ) where
+  pub both-none : eqb cap 0 || leb 256 d && leb 256 f ≡ true → normDrop cap (largerDrop d f) ≡ 256
+  both-none e = elim (ℕ-discrete cap 0) [
+    | yes z ↦ norm-zero cap (largerDrop d f) z
+    | no z ↦ norm-none cap (largerDrop d f) z (larger-none d f (simp (ne-eqb cap 0 z) at e))
+  ]
+
+  module _ (e : eqb cap 0 || leb 256 d && leb 256 f ≡ false) where
+    some : (cap ≡ 0 → ⊥) × (largerDrop d f ≡ max (rank d - 1) (rank f - 1)) × (largerDrop d f < 256)
+    some =
+        let z = neither (eqb cap 0) _ e in
+        let l = larger-is d f (z .1) in
+        (eqb-false cap 0 (z .0), l .0, l .1)
+
+    pub both-254 : {m : ℕ} → m ≡ max (rank d - 1) (rank f - 1) → m ≡ 254 → normDrop cap (largerDrop d f) ≡ 255
+    both-254 p q = norm-254 cap (largerDrop d f) (some .0) (some .1 ∙ sym p ∙ q)
+
+    pub both-kept : {m : ℕ} → m ≡ max (rank d - 1) (rank f - 1) → (m ≡ 254 → ⊥) → normDrop cap (largerDrop d f) ≡ m
+    both-kept p q =
+        let s = some .1 ∙ sym p in
+        norm-keep cap (largerDrop d f) (some .0) (some .2) (λ w. q (sym s ∙ w)) ∙ s
+
+-- a drop is in normal form beside a cap
+pub normal-is : (c d : ℕ) → eqb d 256 || (not (eqb c 0) && (ltb d 256 && not (eqb d 254))) ≡ eqb (normDrop c d) d
+normal-is c d = elim (ℕ-discrete d 256) [
+  | yes p ↦ elim (ℕ-discrete c 0) [
+    | yes z ↦ simp (eq-eqb d 256 p, norm-zero c d z, eq-eqb 256 d (sym p))
+    | no z ↦ simp (eq-eqb d 256 p, norm-none c d z (omega arith), eq-eqb 256 d (sym p))
+  ]
+  | no p ↦ elim (ℕ-discrete c 0) [
+    | yes z ↦ simp (ne-eqb d 256 p, eq-eqb c 0 z, norm-zero c d z, ne-eqb 256 d (λ q. p (sym q)))
+    | no z ↦ elim (decLe 256 d) [
+      | yes n ↦ simp (ne-eqb d 256 p, ne-eqb c 0 z, le-ltb d 256 n, norm-none c d z n, ne-eqb 256 d (λ q. p (sym q)))
+      | no n ↦ elim (ℕ-discrete d 254) [
+        | yes w ↦ simp (ne-eqb d 256 p, ne-eqb c 0 z, lt-ltb d 256 (omega arith), eq-eqb d 254 w, norm-254 c d z w, ne-eqb 255 d (omega arith))
+        | no w ↦ simp (ne-eqb d 256 p, ne-eqb c 0 z, lt-ltb d 256 (omega arith), ne-eqb d 254 w, norm-keep c d z (omega arith) w, eq-eqb d d refl)
+      ]
+    ]
+  ]
 ]
 
 or-true : (a : Bool) → a || true ≡ true

@@ -1,9 +1,27 @@
 // Counts, drops and rights as numbers.
 ghost use mathlib.Core.Path.{_≡_};
-ghost use Prim.Native.Nat.{min};
-ghost use Rattle.number.specs.Number.{less, counted, countAfter, rightsAfter};
-ghost use Rattle.number.specs.Formulas.{written, normDrop, thenCap, sumDrop, earlierDrop, rank, largerDrop, countAtMost, within};
-ghost use lib.Dec.{leb};
+ghost use Prim.Native.Nat.{_+_, _-_, _<_, min, max};
+ghost use Rattle.number.specs.Number.{pick, less, counted, countAfter, rightsAfter};
+ghost use Rattle.number.specs.Formulas.{written, normDrop, sumDrop, earlierDrop, rank, largerDrop, countAtMost, within};
+ghost use lib.Dec.{leb, ltb, eqb};
+
+// a less b, stopping at 0.
+fn floored(a: u16, b: u16) -> u16
+    ensures { λ x. ⌜ x ≡ a - b ⌝ }
+{
+    if b > a { 0 } else { a - b }
+}
+
+// The sum below 254, else 255.
+fn ceiled(a: u16, b: u16) -> u16
+    requires { ⌜ (a < 256) × (b < 256) ⌝ }
+    ensures { λ x. ⌜ x ≡ pick (ltb (a + b) 254) (a + b) 255 ⌝ }
+{
+    if a + b < 254 {
+        return a + b;
+    }
+    255
+}
 
 pub fn less_of(r: u16, d: u16) -> u16
     ensures { λ x. ⌜ x ≡ less r d ⌝ }
@@ -11,13 +29,7 @@ pub fn less_of(r: u16, d: u16) -> u16
     if r >= 255 {
         return 255;
     }
-    if d >= 255 {
-        return 0;
-    }
-    if r < d {
-        return 0;
-    }
-    r - d
+    floored(r, d)
 }
 
 pub fn smaller(a: u16, b: u16) -> u16
@@ -26,13 +38,21 @@ pub fn smaller(a: u16, b: u16) -> u16
     if a < b { a } else { b }
 }
 
+// The most that a drop leaves of a count: endless where the count is, and where the drop is none, since the count is the cap then.
+fn kept(r: u16, d: u16) -> u16
+    ensures { λ x. ⌜ x ≡ countAfter 255 d r ⌝ }
+{
+    let rest = floored(r, d);
+    if (r >= 255) | (d >= 256) {
+        return 255;
+    }
+    rest
+}
+
 pub fn count_after(c: u16, d: u16, r: u16) -> u16
     ensures { λ x. ⌜ x ≡ countAfter c d r ⌝ }
 {
-    if d >= 256 {
-        return smaller(c, 255);
-    }
-    smaller(smaller(c, less_of(r, d)), 255)
+    smaller(kept(r, d), c)
 }
 
 pub fn rights_after(i: u16, m: u16, r: u16) -> u16
@@ -56,28 +76,20 @@ pub fn norm_drop(c: u16, d: u16) -> u16
     d
 }
 
-pub fn cap_then(c: u16, e: u16, f: u16) -> u16
-    ensures { λ x. ⌜ x ≡ thenCap c e f ⌝ }
+// The drop is in normal form beside the cap.
+pub fn drop_normal(c: u16, d: u16) -> bool
+    ensures { λ x. ⌜ x ≡ eqb (normDrop c d) d ⌝ }
 {
-    if f >= 256 {
-        return e;
-    }
-    smaller(less_of(c, f), e)
+    (d == 256) | ((c != 0) & ((d < 256) & (d != 254)))
 }
 
 pub fn sum_drop(d: u16, f: u16) -> u16
     ensures { λ x. ⌜ x ≡ sumDrop d f ⌝ }
 {
-    if f >= 256 {
+    if (d >= 256) | (f >= 256) {
         return 256;
     }
-    if d >= 256 {
-        return 256;
-    }
-    if d + f < 254 {
-        return d + f;
-    }
-    255
+    ceiled(d, f)
 }
 
 // The drop of all of k times but one, each with the drop d.
@@ -99,16 +111,41 @@ pub fn earlier_drop(k: usize, d: u16) -> u16
     smaller((k as u16 - 1) * d, 255)
 }
 
-pub fn larger_drop(d: u16, f: u16) -> u16
-    ensures { λ x. ⌜ x ≡ largerDrop d f ⌝ }
+// The drop of two effects in turn, in normal form beside their cap: a sum is never 254.
+pub fn drop_then(cap: u16, d: u16, f: u16) -> u16
+    ensures { λ x. ⌜ x ≡ normDrop cap (sumDrop d f) ⌝ }
 {
-    if d >= 256 {
-        return f;
+    if (cap == 0) | ((d >= 256) | (f >= 256)) {
+        return 256;
     }
-    if f >= 256 {
-        return d;
+    ceiled(d, f)
+}
+
+fn larger(d: u16, f: u16) -> u16
+    ensures { λ x. ⌜ x ≡ max d f ⌝ }
+{
+    if d < f { f } else { d }
+}
+
+// None counts as the smallest drop.
+fn taken(d: u16) -> u16
+    ensures { λ x. ⌜ x ≡ rank d - 1 ⌝ }
+{
+    if d >= 256 { 0 } else { d }
+}
+
+// The larger drop, in normal form beside the cap.
+pub fn drop_both(cap: u16, d: u16, f: u16) -> u16
+    ensures { λ x. ⌜ x ≡ normDrop cap (largerDrop d f) ⌝ }
+{
+    let most = larger(taken(d), taken(f));
+    if (cap == 0) | ((d >= 256) & (f >= 256)) {
+        return 256;
     }
-    if d <= f { f } else { d }
+    if most == 254 {
+        return 255;
+    }
+    most
 }
 
 pub fn within_of(a: u16, b: u16) -> bool

@@ -1,10 +1,8 @@
 -- What loops and literals leave, in a block that is read or written.
 use Prim.Native.Nat.{ℕ, zero, suc, _+_, _*_, _≤_, _<_}
 use mathlib.Core.Path.{_≡_, refl, ap, subst, _∙_}
-use mathlib.Core.Bool.{cond}
 use mathlib.Core.List.{List, [], _∷_, _++_, append-nil}
 use lib.ListN.{length, getD, take, drop, set, replicate, length-set, drop-of-length-le}
-use lib.Dec.{ltb}
 use native.Mathlib.Nat.{not-suc-le-zero, mul-le-mul-left, mul-suc}
 use native.Mathlib.Decide.{decLt}
 use native.Mathlib.Numerals.{add-one}
@@ -17,20 +15,6 @@ use Rattle.effect.specs.declared.Effect.{Effect}
 use Rattle.effect.specs.Six.{six}
 use Rattle.effect.proofs.Six.{below-six}
 use Rattle.sheet.specs.Write.{stockWord, effectWord, stockBytes, effectBytes, laidOut, blanked}
-
--- the first k of the six are those of f, the others `none`
-abbrev pub upTo : (ℕ → ℕ) → ℕ → ℕ → ℕ → ℕ
-upTo f none k i = cond (ltb i k) (f i) none
-
-more : (f : ℕ → ℕ) (none k : ℕ) → k < 6 → set (six (upTo f none k)) k (f k) ≡ six (upTo f none (k + 1))
-more f none = below-six (λ k. set (six (upTo f none k)) k (f k) ≡ six (upTo f none (k + 1))) refl refl refl refl refl refl
-
-pub one-more : (f : ℕ → ℕ) (none : ℕ) {l : List ℕ} (k : ℕ) {v : ℕ} → k < 6 → l ≡ six (upTo f none k) → v ≡ f k → set l k v ≡ six (upTo f none (k + 1))
-one-more f none {l} k {v} h p q = (λ i. set (p i) k (q i)) ∙ more f none k h
-
--- all that the file has
-pub all-read : (f : ℕ → ℕ) (none : ℕ) {l : List ℕ} {t k : ℕ} → k ≤ t → t ≤ k → l ≡ six (upTo f none k) → l ≡ six (upTo f none t)
-all-read f none {l} {t} {k} h g p = let e : t ≡ k = omega arith in rw e p
 
 -- the turns of a loop over t types with n words each, at type k
 pub turns : (n : ℕ) {k t : ℕ} → k < t → n * k + n ≤ n * t

@@ -33,7 +33,7 @@ pub fn normal(x: One) -> bool
 {
     let i = number::within_of(x.keepin, x.keepmax);
     let c = x.cap <= 255;
-    let d = number::norm_drop(x.cap, x.drop) == x.drop;
+    let d = number::drop_normal(x.cap, x.drop);
     i & (c & d)
 }
 
@@ -86,12 +86,14 @@ pub fn apply(x: One, h: Held) -> Held
 pub fn then(x: One, y: One) -> One
     ensures { λ r. ⌜ r ≡ thenOne x y ⌝ }
 {
-    normal_form(One {
-        keepin: number::rights_after(y.keepin, y.keepmax, x.keepin),
-        keepmax: number::rights_after(y.keepin, y.keepmax, x.keepmax),
-        cap: number::cap_then(x.cap, y.cap, y.drop),
-        drop: number::sum_drop(x.drop, y.drop),
-    })
+    let keepmax = number::rights_after(y.keepin, y.keepmax, x.keepmax);
+    let cap = number::count_after(y.cap, y.drop, x.cap);
+    One {
+        keepin: number::rights_after(y.keepin, y.keepmax, x.keepin) & keepmax,
+        keepmax,
+        cap,
+        drop: number::drop_then(cap, x.drop, y.drop),
+    }
 }
 
 // The effect taken k times, without a repetition; 0 is read as 1.
@@ -114,12 +116,14 @@ pub fn times(x: One, k: usize) -> One
 pub fn both(x: One, y: One) -> One
     ensures { λ r. ⌜ r ≡ bothOne x y ⌝ }
 {
-    normal_form(One {
-        keepin: x.keepin & y.keepin,
-        keepmax: x.keepmax & y.keepmax,
-        cap: number::smaller(x.cap, y.cap),
-        drop: number::larger_drop(x.drop, y.drop),
-    })
+    let keepmax = x.keepmax & y.keepmax;
+    let cap = number::smaller(number::smaller(x.cap, y.cap), 255);
+    One {
+        keepin: x.keepin & y.keepin & keepmax,
+        keepmax,
+        cap,
+        drop: number::drop_both(cap, x.drop, y.drop),
+    }
 }
 
 // x leaves at most what y leaves. What keep-in has beyond keep-max is never left, so it is not compared.

@@ -1,28 +1,56 @@
 use borrow.Author.Needs.{needs}
+use Prim.Native.Nat.{_-_}
+use mathlib.Core.Path.{refl}
+use native.Mathlib.Omega.{arith}
 use Rattle.single.specs.Formulas.{bothOne}
 use Rattle.effect.specs.Six.{oneAt}
 use Rattle.effect.specs.Whole.{bothOf}
-use Rattle.effect.proofs.Six.{made-effect}
+use Rattle.effect.proofs.Filled.{Ones, ones-more, ones-all}
 use Rattle.effect.proofs.Laws.{both-normal}
 use Rattle.effect.proofs.Coordinate.{apply-both}
 use Rattle.effect.proofs.Means.{leaves}
 use Rattle.effect.proofs.both.Statement.{statement}
 use Rattle.effect.proofs.both.Tie as tie
 
-returns : tie.Need-returns
+abbrev Inv-loop : tie.InvT-loop
+Inv-loop a b i₀ m₀ c₀ d₀ j₀ i m c d k = Ones (λ j. bothOne (oneAt a j) (oneAt b j)) i m c d k
+
+abbrev μ-loop : tie.MeasureT-loop
+μ-loop a b i₀ m₀ c₀ d₀ j₀ i m c d k = 6 - k
+
+loop-holds : tie.Need-loop-holds Inv-loop μ-loop
+loop-holds c = (omega arith, refl, refl, refl, refl)
+
+loop-again : tie.Need-loop-again Inv-loop μ-loop
+loop-again c =
+    let l = c .before .before in
+    let a = l .before .args in
+    ones-more (λ j. bothOne (oneAt (a .a) j) (oneAt (a .b) j)) (search needs) (l .loop .inv) (c .both-at .ensures)
+
+returns : tie.Need-returns Inv-loop μ-loop
 unfolding bothOf
 returns c =
-    let s = c .before .before .before .before .before .before .before in
-    let a = s .args in
+    let a = c .before .before .args in
     leaves _ (both-normal (a .a) (a .b)) (apply-both (a .a) (a .b))
-    (made-effect (λ k. bothOne (oneAt (a .a) k) (oneAt (a .b) k))
-    (c .before .before .before .before .before .before .both-at .ensures)
-    (c .before .before .before .before .before .both-at2 .ensures)
-    (c .before .before .before .before .both-at3 .ensures)
-    (c .before .before .before .both-at4 .ensures)
-    (c .before .before .both-at5 .ensures)
-    (c .before .both-at6 .ensures)
-    (c .effect-of .ensures))
+    (ones-all (λ j. bothOne (oneAt (a .a) j) (oneAt (a .b) j)) (c .before .loop .inv) (search needs))
 
 pub both-spec : {M : Type 1} → statement M
-both-spec = tie.close (tie.spec (λ c κs. search needs) (λ c κs. search needs) (λ c κs. search needs) (λ c κs. search needs) (λ c κs. search needs) (λ c κs. search needs) (λ c κs. search needs) returns)
+both-spec =
+    tie.close
+    (tie.spec
+    Inv-loop
+    μ-loop
+    loop-holds
+    (λ c κs. search needs)
+    (λ c. search needs)
+    (λ c. search needs)
+    (λ c. search needs)
+    (λ c. search needs)
+    (λ c. search needs)
+    (λ c. search needs)
+    (λ c. search needs)
+    (λ c. search needs)
+    (λ c. search needs)
+    (λ c. search needs)
+    loop-again
+    returns)

@@ -1,26 +1,49 @@
 use borrow.Author.Needs.{needs}
+use Prim.Native.Nat.{_-_}
+use mathlib.Core.Path.{refl}
+use native.Mathlib.Omega.{arith}
 use Rattle.single.specs.Formulas.{lowerHeld}
 use Rattle.effect.specs.Six.{heldAt}
 use Rattle.effect.specs.Whole.{lowerOf}
-use Rattle.effect.proofs.Six.{made-stock}
+use Rattle.effect.proofs.Filled.{Helds, helds-more, helds-all}
 use Rattle.effect.proofs.Means.{lowers}
 use Rattle.effect.proofs.lower.Statement.{statement}
 use Rattle.effect.proofs.lower.Tie as tie
 
-returns : tie.Need-returns
+abbrev Inv-loop : tie.InvT-loop
+Inv-loop s t a₀ b₀ j₀ a b k = Helds (λ j. lowerHeld (heldAt s j) (heldAt t j)) a b k
+
+abbrev μ-loop : tie.MeasureT-loop
+μ-loop s t a₀ b₀ j₀ a b k = 6 - k
+
+loop-holds : tie.Need-loop-holds Inv-loop μ-loop
+loop-holds c = (omega arith, refl, refl)
+
+loop-again : tie.Need-loop-again Inv-loop μ-loop
+loop-again c =
+    let l = c .before .before in
+    let p = l .before .args in
+    helds-more (λ j. lowerHeld (heldAt (p .s) j) (heldAt (p .t) j)) (search needs) (l .loop .inv) (c .lower-at .ensures)
+
+returns : tie.Need-returns Inv-loop μ-loop
 unfolding lowerOf
 returns c =
-    let s = c .before .before .before .before .before .before .before in
-    let a = s .args in
-    lowers (a .s) (a .t)
-    (made-stock (λ k. lowerHeld (heldAt (a .s) k) (heldAt (a .t) k))
-    (c .before .before .before .before .before .before .lower-at .ensures)
-    (c .before .before .before .before .before .lower-at2 .ensures)
-    (c .before .before .before .before .lower-at3 .ensures)
-    (c .before .before .before .lower-at4 .ensures)
-    (c .before .before .lower-at5 .ensures)
-    (c .before .lower-at6 .ensures)
-    (c .stock-of .ensures))
+    let p = c .before .before .args in
+    lowers (p .s) (p .t) (helds-all (λ j. lowerHeld (heldAt (p .s) j) (heldAt (p .t) j)) (c .before .loop .inv) (search needs))
 
 pub lower-spec : {M : Type 1} → statement M
-lower-spec = tie.close (tie.spec (λ c κs. search needs) (λ c κs. search needs) (λ c κs. search needs) (λ c κs. search needs) (λ c κs. search needs) (λ c κs. search needs) (λ c κs. search needs) returns)
+lower-spec =
+    tie.close
+    (tie.spec
+    Inv-loop
+    μ-loop
+    loop-holds
+    (λ c κs. search needs)
+    (λ c. search needs)
+    (λ c. search needs)
+    (λ c. search needs)
+    (λ c. search needs)
+    (λ c. search needs)
+    (λ c. search needs)
+    loop-again
+    returns)

@@ -4,7 +4,8 @@ use lib.ListN.{length}
 use native.Mathlib.Omega.{arith}
 use Rattle.effect.specs.Six.{six}
 use Rattle.sheet.specs.Read.{sheetWord}
-use Rattle.sheet.proofs.Fill.{upTo, one-more, all-read, turns}
+use Rattle.effect.proofs.Filled.{upTo, one-more, all-read}
+use Rattle.sheet.proofs.Fill.{turns}
 use borrow.Author.Needs.{needs}
 use Rattle.sheet.proofs.inner_column.Statement.{statement}
 use Rattle.sheet.proofs.inner_column.Tie as tie

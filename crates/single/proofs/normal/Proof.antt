@@ -5,7 +5,7 @@ use Rattle.single.proofs.normal.Tie as tie
 
 returns : tie.Need-returns
 unfolding normalOne
-returns c = simp (c .before .before .before .within-of .ensures, c .before .norm-drop .ensures)
+returns c = simp (c .before .before .within-of .ensures, c .drop-normal .ensures)
 
 pub normal-spec : {M : Type 1} → statement M
 normal-spec = tie.close (tie.spec (λ c κs. search needs) (λ c κs. search needs) returns)

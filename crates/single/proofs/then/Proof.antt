@@ -1,18 +1,23 @@
 use borrow.Author.Needs.{needs}
-use Rattle.single.specs.Formulas.{thenOne}
+use mathlib.Core.Path.{_∙_, ap}
+use Prim.Native.Nat.{ℕ}
+use lib.Bits.{bitAnd}
+use Rattle.number.specs.Formulas.{normDrop, thenCap, sumDrop}
+use Rattle.number.proofs.Cases.{cap-is, norm-counted}
+use Rattle.single.specs.Formulas.{normalForm, thenOne}
 use Rattle.single.proofs.then.Statement.{statement}
 use Rattle.single.proofs.then.Tie as tie
 
 returns : tie.Need-returns
-unfolding thenOne
+unfolding thenOne normalForm
 returns c =
-    simp (
-      c .before .before .before .before .rights-after .ensures,
-      c .before .before .before .rights-after2 .ensures,
-      c .before .before .cap-then .ensures,
-      c .before .sum-drop .ensures,
-      c .normal-form .ensures,
-    )
+    let x = c .before .before .before .before .args .x in
+    let y = c .before .before .before .before .args .y in
+    let m = c .before .before .before .rights-after .ensures in
+    let n = c .before .before .count-after .ensures ∙ cap-is (x .cap) (y .cap) (y .drop) in
+    let d = sumDrop (x .drop) (y .drop) in
+    let p = c .drop-then .ensures ∙ ap (λ (k : ℕ). normDrop k d) n ∙ norm-counted (thenCap (x .cap) (y .cap) (y .drop)) d in
+    λ i. record { keepin = bitAnd (c .before .rights-after2 .ensures i) (m i); keepmax = m i; cap = n i; drop = p i }
 
 pub then-spec : {M : Type 1} → statement M
-then-spec = tie.close (tie.spec (λ c κs. search needs) (λ c κs. search needs) (λ c κs. search needs) (λ c κs. search needs) (λ c κs. search needs) returns)
+then-spec = tie.close (tie.spec (λ c κs. search needs) (λ c κs. search needs) (λ c κs. search needs) (λ c κs. search needs) returns)
