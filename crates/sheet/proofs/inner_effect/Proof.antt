@@ -4,7 +4,7 @@ use native.Mathlib.Omega.{arith}
 use Rattle.effect.specs.Six.{six}
 use Rattle.sheet.specs.Read.{sheetWord, effectAt}
 use Rattle.sheet.specs.Inner.{oneWords}
-use Rattle.sheet.proofs.Fill.{upTo, one-more, all-read}
+use Rattle.effect.proofs.Filled.{upTo, one-more, all-read}
 use borrow.Author.Needs.{needs}
 use Rattle.sheet.proofs.inner_effect.Statement.{statement}
 use Rattle.sheet.proofs.inner_effect.Tie as tie
