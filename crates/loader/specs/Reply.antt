@@ -24,7 +24,7 @@ pub record Checked (f s : List ℕ) (n : ℕ) : Type 0 where
   pub safe : Safe f answer
   pub packed : n ≡ packedOf answer
 
--- of the check of many sheets: the lent row was w and is r; the number 0 stands in it for no graph that has a run that overdraws
+-- of the check of many sheets: the lent row was w and is r; where a sheet's number in it is 0, no run of that graph overdraws
 pub record CheckedMany (f s w r : List ℕ) (n : ℕ) : Type 0 where
   pub answer : Answer
   pub checks : ChecksMany f s w r answer

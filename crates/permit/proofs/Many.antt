@@ -120,13 +120,13 @@ module _ (f s : List ℕ) where
   safe-row (miscounted p n e v) z i l q = absurd (omega (arith, v .number-is))
   safe-row (checked p k c t v) z i l q = safe f (sheetAt f s i) (sym (t .each i (omega (arith, c .two, t .one-length)) .number-is) ∙ q)
 
-  -- A sheet of those that are counted is whole, so what the row says of it is 0, 11, 12 or 13.
+  -- A sheet of those that are counted is whole, so what check answers for it is 0, 11, 12 or 13.
   sheet-long : {numbers k : ℕ} → Counts (sheetBytes (shape f)) (length s) numbers k → (i : ℕ) → i < k → length (sheetAt f s i) ≡ sheetBytes (shape f)
   sheet-long c i l =
       let within = sheet-within (sheetBytes (shape f)) l in
       simp (length-take, length-drop) (omega (arith, c .whole))
 
-  pub few-numbers : {numbers k : ℕ} → judgeOf f ≡ Pass → Counts (sheetBytes (shape f)) (length s) numbers k → (i : ℕ) → i < k
+  few-numbers : {numbers k : ℕ} → judgeOf f ≡ Pass → Counts (sheetBytes (shape f)) (length s) numbers k → (i : ℕ) → i < k
       → (numberOf (checkOf f (sheetAt f s i)) ≡ 0) ⊎ ((11 ≤ numberOf (checkOf f (sheetAt f s i))) × (numberOf (checkOf f (sheetAt f s i)) ≤ 13))
   few-numbers p c i l = go (checks f (sheetAt f s i))
     where
@@ -137,3 +137,12 @@ module _ (f s : List ℕ) where
       go (one.broken w r k h n low v) = inr (omega (arith, v .number-is), omega (arith, v .number-is))
       go (one.overdrawn w h n y u k v) = inr (omega (arith, v .number-is), omega (arith, v .number-is))
       go (one.accepted w h k v) = inl (v .number-is)
+
+  -- So it is with each sheet's number in the row.
+  pub few-in-row : {w w′ : List ℕ} {a : Answer} → ChecksMany f s w w′ a → numberOf a ≡ 0 → (i : ℕ) → 2 * i < length w′
+      → (getD w′ (2 * i) 0 ≡ 0) ⊎ ((11 ≤ getD w′ (2 * i) 0) × (getD w′ (2 * i) 0 ≤ 13))
+  few-in-row (refused n e v) z i l = absurd (n (zero-pass (judgeOf f) (sym (v .number-is) ∙ z)))
+  few-in-row (miscounted p n e v) z i l = absurd (omega (arith, v .number-is))
+  few-in-row (checked p k c t v) z i l =
+      let below : i < k = omega (arith, c .two, t .one-length) in
+      subst (λ (n : ℕ). (n ≡ 0) ⊎ ((11 ≤ n) × (n ≤ 13))) (sym (t .each i below .number-is)) (few-numbers p c i below)
