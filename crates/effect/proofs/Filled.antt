@@ -31,33 +31,46 @@ one-more f none {l} k {v} h p q = (λ i. set (p i) k (q i)) ∙ more f none k h
 pub all-read : (f : ℕ → ℕ) (none : ℕ) {l : List ℕ} {t k : ℕ} → k ≤ t → t ≤ k → l ≡ six (upTo f none k) → l ≡ six (upTo f none t)
 all-read f none {l} {t} {k} h g p = let e : t ≡ k = omega arith in rw e p
 
--- an effect's four fields
-module _ (f : ℕ → One) where
-  abbrev pub Ones : List ℕ → List ℕ → List ℕ → List ℕ → ℕ → Type 0
-  Ones i m c d k =
-      (k ≤ 6)
-      × (i ≡ six (upTo (λ j. f j .keepin) 0 k))
-      × (m ≡ six (upTo (λ j. f j .keepmax) 0 k))
-      × (c ≡ six (upTo (λ j. f j .cap) 0 k))
-      × (d ≡ six (upTo (λ j. f j .drop) 0 k))
+-- an effect's four fields, after k of t types: of those what f says, of the others what `none` says
+module _ (f : ℕ → One) (none : One) where
+  abbrev pub Ones : ℕ → List ℕ → List ℕ → List ℕ → List ℕ → ℕ → Type 0
+  Ones t i m c d k =
+      (k ≤ t)
+      × (i ≡ six (upTo (λ j. f j .keepin) (none .keepin) k))
+      × (m ≡ six (upTo (λ j. f j .keepmax) (none .keepmax) k))
+      × (c ≡ six (upTo (λ j. f j .cap) (none .cap) k))
+      × (d ≡ six (upTo (λ j. f j .drop) (none .drop) k))
 
-  pub ones-more : {i m c d : List ℕ} {k : ℕ} {x : One} → k < 6 → Ones i m c d k → x ≡ f k
-      → Ones (set i k (x .keepin)) (set m k (x .keepmax)) (set c k (x .cap)) (set d k (x .drop)) (k + 1)
-  ones-more {k = k} h v e = (
-    omega arith,
-    one-more (λ j. f j .keepin) 0 k h (v .1) (λ i. e i .keepin),
-    one-more (λ j. f j .keepmax) 0 k h (v .2) (λ i. e i .keepmax),
-    one-more (λ j. f j .cap) 0 k h (v .3) (λ i. e i .cap),
-    one-more (λ j. f j .drop) 0 k h (v .4) (λ i. e i .drop),
-  )
+  pub ones-more : {t : ℕ} {i m c d : List ℕ} {k : ℕ} {x : One} → t ≤ 6 → k < t → Ones t i m c d k → x ≡ f k
+      → Ones t (set i k (x .keepin)) (set m k (x .keepmax)) (set c k (x .cap)) (set d k (x .drop)) (k + 1)
+  ones-more {k = k} few h v e =
+      let l : k < 6 = omega arith in (
+        omega arith,
+        one-more (λ j. f j .keepin) (none .keepin) k l (v .1) (λ i. e i .keepin),
+        one-more (λ j. f j .keepmax) (none .keepmax) k l (v .2) (λ i. e i .keepmax),
+        one-more (λ j. f j .cap) (none .cap) k l (v .3) (λ i. e i .cap),
+        one-more (λ j. f j .drop) (none .drop) k l (v .4) (λ i. e i .drop),
+      )
 
-  pub ones-all : {i m c d : List ℕ} {k : ℕ} → Ones i m c d k → 6 ≤ k → _≡_ {A = Effect} (record { keepin = i; keepmax = m; cap = c; drop = d }) (effectOf f)
+  pub ones-all : {t : ℕ} {i m c d : List ℕ} {k : ℕ} → Ones t i m c d k → t ≤ k
+      → _≡_ {A = Effect}
+      (record { keepin = i; keepmax = m; cap = c; drop = d })
+      (record {
+        keepin = six (upTo (λ j. f j .keepin) (none .keepin) t);
+        keepmax = six (upTo (λ j. f j .keepmax) (none .keepmax) t);
+        cap = six (upTo (λ j. f j .cap) (none .cap) t);
+        drop = six (upTo (λ j. f j .drop) (none .drop) t);
+      })
   ones-all v h =
-      let p = all-read (λ j. f j .keepin) 0 (v .0) h (v .1) in
-      let q = all-read (λ j. f j .keepmax) 0 (v .0) h (v .2) in
-      let r = all-read (λ j. f j .cap) 0 (v .0) h (v .3) in
-      let s = all-read (λ j. f j .drop) 0 (v .0) h (v .4) in
+      let p = all-read (λ j. f j .keepin) (none .keepin) (v .0) h (v .1) in
+      let q = all-read (λ j. f j .keepmax) (none .keepmax) (v .0) h (v .2) in
+      let r = all-read (λ j. f j .cap) (none .cap) (v .0) h (v .3) in
+      let s = all-read (λ j. f j .drop) (none .drop) (v .0) h (v .4) in
       λ i. record { keepin = p i; keepmax = q i; cap = r i; drop = s i }
+
+-- what an array holds that is not filled yet
+abbrev pub unfilled : One
+unfilled = record { keepin = 0; keepmax = 0; cap = 0; drop = 0 }
 
 -- a stock's two
 module _ (f : ℕ → Held) where

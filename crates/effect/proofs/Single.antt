@@ -13,7 +13,7 @@ use Rattle.number.specs.Number.{counted, less, rightsAfter}
 use Rattle.number.specs.Formulas.{normDrop, within}
 use Rattle.single.specs.Single.{applyOne}
 use Rattle.single.specs.Formulas.{normalForm, normalOne, thenOne, bothOne, atMostOne, heldAtMost, lowerHeld, granted, drawn}
-use Rattle.effect.specs.Coordinate.{bit}
+use Rattle.effect.specs.Coordinate.{bit, RightsWithin}
 use Rattle.effect.specs.Meaning.{NormalAt}
 use Rattle.number.proofs.Cases.{norm-zero}
 use Rattle.effect.proofs.Bools.{and-l, and-r, and-i}
@@ -24,7 +24,7 @@ use Rattle.effect.proofs.Rights.{bit-after, rights-norm, rights-then, r
 
 -- of one type: no right and no count that the other has not
 pub record HeldBelow (h g : Held) : Type 0 where
-  pub every-right : (b : ℕ) → bit b (h .rights) ≤ bit b (g .rights)
+  pub every-right : RightsWithin (h .rights) (g .rights)
   pub the-count : counted (h .count) ≤ counted (g .count)
 
 pub below-refl : (h : Held) → HeldBelow h h

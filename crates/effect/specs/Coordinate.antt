@@ -1,5 +1,5 @@
 -- A stock as numbers that stand alone: each right of each type, and each type's count.
-use Prim.Native.Nat.{ℕ, _/_, _%_, _^_, _<_}
+use Prim.Native.Nat.{ℕ, _/_, _%_, _^_, _≤_, _<_}
 use lib.ListN.{getD}
 use Rattle.number.specs.Number.{counted}
 use Rattle.effect.specs.declared.Stock.{Stock}
@@ -7,6 +7,10 @@ use Rattle.effect.specs.declared.Stock.{Stock}
 -- bit b of n
 unfoldable pub bit : ℕ → ℕ → ℕ
 bit b n = n / 2 ^ b % 2
+
+-- the rights p are within the rights q, bit by bit
+abbrev pub RightsWithin : ℕ → ℕ → Type 0
+RightsWithin p q = (b : ℕ) → bit b p ≤ bit b q
 
 pub data Coordinate : Type 0 where
   right : (k b : ℕ) → k < 6 → b < 16 → Coordinate

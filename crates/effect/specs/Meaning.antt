@@ -11,7 +11,7 @@ use Rattle.effect.specs.declared.Stock.{Stock}
 use Rattle.effect.specs.declared.Effect.{Effect}
 use Rattle.effect.specs.Six.{six, oneAt}
 use Rattle.effect.specs.Apply.{applyOf}
-use Rattle.effect.specs.Coordinate.{bit, Coordinate, typeOf, at}
+use Rattle.effect.specs.Coordinate.{RightsWithin, Coordinate, typeOf, at}
 
 -- one stock is at most another: no right that the other has not, and no larger count
 abbrev pub Below : Stock → Stock → Type 0
@@ -56,12 +56,12 @@ againOf e (suc (suc n)) s = applyOf e (againOf e (suc n) s)
 -- "It covers a draw if it has every right drawn and a count of at least 1."
 pub record Covers (s : Stock) (t p : ℕ) : Type 0 where
   pub a-type : t < 6
-  pub every-right : (b : ℕ) → bit b p ≤ bit b (getD (s .rights) t 0)
+  pub every-right : RightsWithin p (getD (s .rights) t 0)
   pub a-count : 1 ≤ getD (s .counts) t 0
 
 -- "Normal form: keep-in within keep-max; cap 0 has drop 256; drop 254 is written 255." A cap is at most 255, a drop at most 256.
 pub record NormalAt (x : One) : Type 0 where
-  pub within-max : (b : ℕ) → bit b (x .keepin) ≤ bit b (x .keepmax)
+  pub within-max : RightsWithin (x .keepin) (x .keepmax)
   pub cap-runs : x .cap ≤ 255
   pub drop-runs : x .drop ≤ 256
   pub zero-none : x .cap ≡ 0 → x .drop ≡ 256

@@ -45,7 +45,7 @@ fn one_at(e: Effect, k: usize) -> One
     }
 }
 
-pub fn effect_of(p: One, q: One, r: One, s: One, t: One, u: One) -> Effect
+fn effect_of(p: One, q: One, r: One, s: One, t: One, u: One) -> Effect
     ensures { λ x. ⌜ x ≡ effectOf (among p q r s t u) ⌝ }
 {
     let i = [p.keepin, q.keepin, r.keepin, s.keepin, t.keepin, u.keepin];

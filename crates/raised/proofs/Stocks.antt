@@ -9,7 +9,7 @@ use native.Mathlib.Omega.{arith}
 use Rattle.single.specs.declared.Held.{Held}
 use Rattle.effect.specs.declared.Stock.{Stock}
 use Rattle.effect.specs.Six.{heldAt, stockOf, noneHeld}
-use Rattle.effect.specs.Coordinate.{Coordinate, right, count, typeOf, at}
+use Rattle.effect.specs.Coordinate.{RightsWithin, Coordinate, right, count, typeOf, at}
 use Rattle.effect.proofs.Bit.{bit-none}
 use Rattle.effect.proofs.Six.{stock-at}
 use Rattle.effect.proofs.Coordinate.{type-lt, seen, at-seen}
@@ -21,7 +21,7 @@ use Rattle.tables.proofs.SameRows.{SameRows, same-tables}
 use Rattle.nodes.specs.Nodes.{forType, openingIn}
 use Rattle.nodes.specs.Program.{programOf}
 use Rattle.nodes.proofs.Cases.{for-some, for-none}
-use Rattle.raised.specs.Opening.{Within, rightsOf, countOf}
+use Rattle.raised.specs.Opening.{rightsOf, countOf}
 
 none-seen : (i : Coordinate) → seen i noneHeld ≡ 0
 none-seen (right k b _ _) = bit-none b
@@ -64,13 +64,13 @@ opening-none f i l =
     ∙ (λ j. seen i (record { rights = for-none t (openingRights f t) (typeOf i) l j; count = for-none t (openingCount f t) (typeOf i) l j }))
     ∙ none-seen i
 
-seen-below : (i : Coordinate) (p q c d : ℕ) → Within p q → c ≤ d → seen i (record { rights = p; count = c }) ≤ seen i (record { rights = q; count = d })
+seen-below : (i : Coordinate) (p q c d : ℕ) → RightsWithin p q → c ≤ d → seen i (record { rights = p; count = c }) ≤ seen i (record { rights = q; count = d })
 seen-below (right k b _ _) p q c d h l = h b
 seen-below (count k _) p q c d h l = omega arith
 
 -- of the types that are kept f opens with at most what g opens with
 abbrev pub OpensBelow : (ℕ → Bool) → List ℕ → List ℕ → Type 0
-OpensBelow keep f g = (k : ℕ) → k < tablesOf f .types → keep k ≡ true → Within (rightsOf f k) (rightsOf g k) × (countOf f k ≤ countOf g k)
+OpensBelow keep f g = (k : ℕ) → k < tablesOf f .types → keep k ≡ true → RightsWithin (rightsOf f k) (rightsOf g k) × (countOf f k ≤ countOf g k)
 
 module _ {f g : List ℕ} (A : SameRows f g) {keep : ℕ → Bool} (h : OpensBelow keep f g) where
   pub opening-below : (i : Coordinate) → keep (typeOf i) ≡ true → at i (programOf f .opening) ≤ at i (programOf g .opening)

@@ -12,7 +12,7 @@ use borrow.Author.Tests.{lt-ltb, le-ltb, eq-eqb, ne-eqb, eqb-true}
 use Rattle.words.proofs.Read.{word-lt}
 use Rattle.number.specs.Number.{counted}
 use Rattle.number.specs.Formulas.{within}
-use Rattle.effect.specs.Coordinate.{bit, right, count, at}
+use Rattle.effect.specs.Coordinate.{RightsWithin, bit, right, count, at}
 use Rattle.effect.proofs.Bit.{bit-none, word-bits, bit-within}
 use Rattle.model.specs.Rules.{Under}
 use Rattle.model.specs.Stocks.{permits}
@@ -28,12 +28,11 @@ use Rattle.formed.proofs.Judged.{Formed, formed, counts-le}
 use Rattle.rules.specs.Sheet.{shape, sheet, WellFormed}
 use Rattle.work.proofs.Same.{effect-settled}
 use Rattle.work.proofs.Words.{stands}
-use Rattle.raised.specs.Opening.{Within}
 use Rattle.raised.specs.Outcome.{EffectsStay, rightsAt, countAt}
 use Rattle.raised.proofs.Stocks.{keeping, at-kept}
 
 -- rights that are within others are no larger as a number
-within-le : (p q : ℕ) → Within p q → p ≤ q
+within-le : (p q : ℕ) → RightsWithin p q → p ≤ q
 unfolding within
 within-le p q h = omega (arith, eqb-true _ p (bit-within p q h), and-le-r p q)
 
@@ -49,7 +48,7 @@ module _ (s : List ℕ) (t w k : ℕ) (l : k < t) (u : k < 6) where
 
 -- of the type k, what s says of the method m is at most what z says
 pub record Lower (x : Shape) (s z : List ℕ) (m k : ℕ) : Type 0 where
-  pub rights : Within (sheetWord s (rightsAt x m k)) (sheetWord z (rightsAt x m k))
+  pub rights : RightsWithin (sheetWord s (rightsAt x m k)) (sheetWord z (rightsAt x m k))
   pub count : sheetWord s (countAt x m k) ≤ sheetWord z (countAt x m k)
 
 module _ (f : List ℕ) where

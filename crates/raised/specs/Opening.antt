@@ -4,7 +4,7 @@ use mathlib.Core.Path.{_≡_}
 use mathlib.Core.List.{List}
 use lib.ListN.{length}
 use Rattle.words.specs.Bytes.{byteAt}
-use Rattle.effect.specs.Coordinate.{bit}
+use Rattle.effect.specs.Coordinate.{RightsWithin}
 use Rattle.tables.specs.Trailer.{tablesOf}
 use Rattle.tables.specs.Fields.{openingRights, openingCount}
 
@@ -17,10 +17,6 @@ pub record ButOpening (f g : List ℕ) : Type 0 where
   pub one-length : length f ≡ length g
   pub same-bytes : (p : ℕ) → (OfOpening f p → ⊥) → byteAt f p ≡ byteAt g p
 
--- the rights p are within the rights q, bit by bit
-abbrev pub Within : ℕ → ℕ → Type 0
-Within p q = (b : ℕ) → bit b p ≤ bit b q
-
 -- what a file opens with of the type k
 abbrev pub rightsOf : List ℕ → ℕ → ℕ
 rightsOf f k = openingRights f (tablesOf f) k
@@ -32,7 +28,7 @@ countOf f k = openingCount f (tablesOf f) k
 -- smaller; 255 is endless, and the largest
 pub record Raised (f g : List ℕ) : Type 0 where
   pub but-opening : ButOpening f g
-  pub rights : (k : ℕ) → k < tablesOf f .types → Within (rightsOf f k) (rightsOf g k)
+  pub rights : (k : ℕ) → k < tablesOf f .types → RightsWithin (rightsOf f k) (rightsOf g k)
   pub count : (k : ℕ) → k < tablesOf f .types → countOf f k ≤ countOf g k
 
 -- "a change to one type's opening stock": of every type other than j the opening stock is the same; that of j may be anything

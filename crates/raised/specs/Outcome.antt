@@ -5,11 +5,11 @@ use mathlib.Core.Logic.{_⊎_}
 use mathlib.Core.List.{List}
 use Rattle.answer.specs.declared.Answer.{Answer}
 use Rattle.answer.specs.Number.{numberOf, placeOf}
+use Rattle.effect.specs.Coordinate.{RightsWithin}
 use Rattle.layout.specs.declared.Shape.{Shape}
 use Rattle.layout.specs.Layout.{effectSize, methodAt, exitAt, nodeAt, sheetWords}
 use Rattle.sheet.specs.Read.{sheetWord, SameWords, markAt}
 use Rattle.work.specs.Meaning.{WorksOut}
-use Rattle.raised.specs.Opening.{Within}
 
 -- Work out gives f a verdict, "0 and 13 are verdicts", and leaves the sheet r; whatever the sheet that it was lent held before.
 pub record Verdict (f r : List ℕ) (a : Answer) : Type 0 where
@@ -34,7 +34,7 @@ countAt x m k = methodAt x m + (2 + 2 * k)
 pub record NoWorse (x : Shape) (r q : List ℕ) (a b : Answer) : Type 0 where
   pub effects-stay : EffectsStay x r q
   -- each method keeps every right, and no count of it falls;
-  pub rights-kept : (m k : ℕ) → m < x .methods → k < x .types → Within (sheetWord r (rightsAt x m k)) (sheetWord q (rightsAt x m k))
+  pub rights-kept : (m k : ℕ) → m < x .methods → k < x .types → RightsWithin (sheetWord r (rightsAt x m k)) (sheetWord q (rightsAt x m k))
   pub counts-kept : (m k : ℕ) → m < x .methods → k < x .types → sheetWord r (countAt x m k) ≤ sheetWord q (countAt x m k)
   -- so "no figure in the sheet falls";
   pub no-fall : (v : ℕ) → v < sheetWords x → sheetWord r v ≤ sheetWord q v
