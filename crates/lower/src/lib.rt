@@ -17,10 +17,10 @@ pub fn effect_to(s: &mut [u8], x: Shape, w: usize, e: Effect) -> bool
 {
     if sheet::is_marked(s, w) {
         let old = sheet::effect(s, x.types, w);
-        if effect::at_most(old, e) {
+        if effect_order::at_most(old, e) {
             return false;
         }
-        sheet::write_effect(s, x.types, w, effect::both(old, e));
+        sheet::write_effect(s, x.types, w, effect_order::both(old, e));
         return true;
     }
     sheet::write_effect(s, x.types, w, e);
@@ -34,10 +34,10 @@ pub fn stock_to(s: &mut [u8], x: Shape, w: usize, h: Stock) -> bool
 {
     if sheet::is_marked(s, w) {
         let old = sheet::stock(s, x.types, w);
-        if effect::stock_at_most(old, h) {
+        if effect_order::stock_at_most(old, h) {
             return false;
         }
-        sheet::write_stock(s, x.types, w, effect::lower(old, h));
+        sheet::write_stock(s, x.types, w, effect_order::lower(old, h));
         return true;
     }
     sheet::write_stock(s, x.types, w, h);

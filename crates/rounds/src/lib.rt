@@ -74,7 +74,7 @@ pub fn taken(x: Effect, repeats: u8) -> Repeated
             steps: 0,
         };
     }
-    let p = power(effect::both(none, x), repeats as u32 - 1);
+    let p = power(effect_order::both(none, x), repeats as u32 - 1);
     let before = p.power;
     Repeated {
         before: before,
@@ -107,7 +107,7 @@ fn returning(call: Effect, x: Effect, repeats: usize) -> Rounds
     }
     let last = effect::then(call, effect::times(x, repeats - 1));
     Rounds {
-        earlier: effect::both(call, last),
+        earlier: effect_order::both(call, last),
         whole: effect::then(last, x),
     }
 }

@@ -36,7 +36,7 @@ fn effect_key(s: &[u8], x: Shape, rule: u16, w: usize, e: Effect, least: usize) 
     ensures { λ r. ⌜ r ≡ lessened x (now (s .entry)) (of-effect rule w e) least ⌝ }
 {
     if sheet::is_marked(s, w) {
-        let k = effect::fails(sheet::effect(s, x.types, w), e);
+        let k = effect_order::fails(sheet::effect(s, x.types, w), e);
         return words::smaller(least, at_type(rule, k));
     }
     words::smaller(least, 8 * rule as usize + 6)
@@ -47,7 +47,7 @@ fn stock_key(s: &[u8], x: Shape, rule: u16, w: usize, h: Stock, least: usize) ->
     ensures { λ r. ⌜ r ≡ lessened x (now (s .entry)) (of-stock rule w h) least ⌝ }
 {
     if sheet::is_marked(s, w) {
-        let k = effect::stock_fails(sheet::stock(s, x.types, w), h);
+        let k = effect_order::stock_fails(sheet::stock(s, x.types, w), h);
         return words::smaller(least, at_type(rule, k));
     }
     words::smaller(least, 8 * rule as usize + 6)

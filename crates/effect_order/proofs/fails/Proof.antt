@@ -1,11 +1,11 @@
 use borrow.Author.Needs.{needs}
 use Rattle.single.specs.Formulas.{atMostOne}
 use Rattle.effect.specs.Six.{oneAt}
 use Rattle.effect.specs.Whole.{failsOf}
 use Rattle.effect.proofs.Six.{made-lowest}
 use Rattle.effect.proofs.Means.{tells-fails}
-use Rattle.effect.proofs.fails.Statement.{statement}
-use Rattle.effect.proofs.fails.Tie as tie
+use Rattle.effect_order.proofs.fails.Statement.{statement}
+use Rattle.effect_order.proofs.fails.Tie as tie
 
 returns : tie.Need-returns
 unfolding failsOf

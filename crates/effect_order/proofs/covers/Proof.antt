@@ -1,10 +1,10 @@
 use borrow.Author.Needs.{needs}
 use native.Mathlib.Omega.{arith}
 use borrow.Author.Tests.{lt-ltb, le-ltb}
 use Rattle.effect.specs.Whole.{coversOf}
 use Rattle.effect.proofs.Means.{tells-covers}
-use Rattle.effect.proofs.covers.Statement.{statement}
-use Rattle.effect.proofs.covers.Tie as tie
+use Rattle.effect_order.proofs.covers.Statement.{statement}
+use Rattle.effect_order.proofs.covers.Tie as tie
 
 returns : tie.Need-returns
 unfolding coversOf

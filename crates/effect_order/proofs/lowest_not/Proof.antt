@@ -1,6 +1,6 @@
 use Rattle.words.specs.Lowest.{lowest}
-use Rattle.effect.proofs.lowest_not.Statement.{statement}
-use Rattle.effect.proofs.lowest_not.Tie as tie
+use Rattle.effect_order.proofs.lowest_not.Statement.{statement}
+use Rattle.effect_order.proofs.lowest_not.Tie as tie
 
 returns : tie.Need-returns
 unfolding lowest

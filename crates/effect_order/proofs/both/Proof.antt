@@ -3,14 +3,14 @@ use Prim.Native.Nat.{_-_}
 use mathlib.Core.Path.{refl}
 use native.Mathlib.Omega.{arith}
 use Rattle.single.specs.Formulas.{bothOne}
 use Rattle.effect.specs.Six.{oneAt}
 use Rattle.effect.specs.Whole.{bothOf}
 use Rattle.effect.proofs.Filled.{Ones, ones-more, ones-all, unfilled}
 use Rattle.effect.proofs.Laws.{both-normal}
 use Rattle.effect.proofs.Coordinate.{apply-both}
 use Rattle.effect.proofs.Means.{leaves}
-use Rattle.effect.proofs.both.Statement.{statement}
-use Rattle.effect.proofs.both.Tie as tie
+use Rattle.effect_order.proofs.both.Statement.{statement}
+use Rattle.effect_order.proofs.both.Tie as tie
 
 abbrev Inv-loop : tie.InvT-loop
 Inv-loop a b i₀ m₀ c₀ d₀ j₀ i m c d k = Ones (λ j. bothOne (oneAt a j) (oneAt b j)) unfilled 6 i m c d k

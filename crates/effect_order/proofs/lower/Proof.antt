@@ -3,12 +3,12 @@ use Prim.Native.Nat.{_-_}
 use mathlib.Core.Path.{refl}
 use native.Mathlib.Omega.{arith}
 use Rattle.single.specs.Formulas.{lowerHeld}
 use Rattle.effect.specs.Six.{heldAt}
 use Rattle.effect.specs.Whole.{lowerOf}
 use Rattle.effect.proofs.Filled.{Helds, helds-more, helds-all}
 use Rattle.effect.proofs.Means.{lowers}
-use Rattle.effect.proofs.lower.Statement.{statement}
-use Rattle.effect.proofs.lower.Tie as tie
+use Rattle.effect_order.proofs.lower.Statement.{statement}
+use Rattle.effect_order.proofs.lower.Tie as tie
 
 abbrev Inv-loop : tie.InvT-loop
 Inv-loop s t a₀ b₀ j₀ a b k = Helds (λ j. lowerHeld (heldAt s j) (heldAt t j)) a b k

@@ -5,12 +5,12 @@ use mathlib.Core.Path.{refl, sym, ap, _∙_}
 use mathlib.Core.Bool.{Bool, not}
 use Rattle.words.proofs.Lowest.{NoneBelow, scan-found, scan-none}
 use Rattle.single.specs.Formulas.{heldAtMost}
 use Rattle.effect.specs.declared.Stock.{Stock}
 use Rattle.effect.specs.Six.{heldAt}
 use Rattle.effect.specs.Whole.{stockFailsOf}
 use Rattle.effect.proofs.Means.{tells-stock-fails}
-use Rattle.effect.proofs.stock_fails.Statement.{statement}
-use Rattle.effect.proofs.stock_fails.Tie as tie
+use Rattle.effect_order.proofs.stock_fails.Statement.{statement}
+use Rattle.effect_order.proofs.stock_fails.Tie as tie
 
 -- type j fails
 abbrev failing : Stock → Stock → ℕ → Bool
