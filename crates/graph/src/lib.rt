@@ -55,10 +55,10 @@ fn row_bad(f: &[u8], t: Tables, table: Table, k: u16) -> bool
         Table::Trailer => refuse::count_bad(f, k),
         Table::Methods => refuse::entry_bad(f, t, k),
         Table::Nodes => refuse::node_bad(f, t, k),
-        Table::Flow => refuse::flow_bad(f, t, k),
-        Table::Calls => refuse::call_bad(f, t, k),
+        Table::Flow => graph_edges::flow_bad(f, t, k),
+        Table::Calls => graph_edges::call_bad(f, t, k),
         Table::Parents => refuse::parent_bad(f, t, k),
-        Table::Catches => refuse::catch_bad(f, t, k),
+        Table::Catches => graph_edges::catch_bad(f, t, k),
         Table::Opening => refuse::opening_bad(f, t, k),
     }
 }

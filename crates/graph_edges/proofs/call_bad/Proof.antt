@@ -1,7 +1,7 @@
 use Rattle.refuse.specs.Bad.{callBad}
 use borrow.Author.Needs.{needs}
-use Rattle.refuse.proofs.call_bad.Statement.{statement}
-use Rattle.refuse.proofs.call_bad.Tie as tie
+use Rattle.graph_edges.proofs.call_bad.Statement.{statement}
+use Rattle.graph_edges.proofs.call_bad.Tie as tie
 
 returns : tie.Need-returns
 unfolding callBad

@@ -1,9 +1,9 @@
 use mathlib.Core.Path.{sym, _∙_}
 use borrow.Author.Tests.{ne-eqb}
 use borrow.Author.Needs.{needs}
 use Rattle.refuse.specs.Bad.{throwsOther}
-use Rattle.refuse.proofs.throws_other.Statement.{statement}
-use Rattle.refuse.proofs.throws_other.Tie as tie
+use Rattle.graph_edges.proofs.throws_other.Statement.{statement}
+use Rattle.graph_edges.proofs.throws_other.Tie as tie
 
 returns : tie.Need-returns
 unfolding throwsOther

@@ -1,7 +1,7 @@
 use Rattle.refuse.specs.Bad.{catchBad}
 use borrow.Author.Needs.{needs}
-use Rattle.refuse.proofs.catch_bad.Statement.{statement}
-use Rattle.refuse.proofs.catch_bad.Tie as tie
+use Rattle.graph_edges.proofs.catch_bad.Statement.{statement}
+use Rattle.graph_edges.proofs.catch_bad.Tie as tie
 
 returns : tie.Need-returns
 unfolding catchBad

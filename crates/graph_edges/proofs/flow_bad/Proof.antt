@@ -1,7 +1,7 @@
 use Rattle.refuse.specs.Bad.{flowBad}
 use borrow.Author.Needs.{needs}
-use Rattle.refuse.proofs.flow_bad.Statement.{statement}
-use Rattle.refuse.proofs.flow_bad.Tie as tie
+use Rattle.graph_edges.proofs.flow_bad.Statement.{statement}
+use Rattle.graph_edges.proofs.flow_bad.Tie as tie
 
 returns : tie.Need-returns
 unfolding flowBad

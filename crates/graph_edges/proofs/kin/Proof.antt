@@ -7,9 +7,9 @@ use borrow.Author.Tests.{eq-eqb, ne-eqb}
 use borrow.Author.Needs.{needs}
 use Rattle.tables.specs.Family.{nearest}
 use Rattle.tables.proofs.Family.{nearest-here, nearest-up, nearest-last}
 use Rattle.refuse.specs.Bad.{kin}
-use Rattle.refuse.proofs.kin.Statement.{statement}
-use Rattle.refuse.proofs.kin.Tie as tie
+use Rattle.graph_edges.proofs.kin.Statement.{statement}
+use Rattle.graph_edges.proofs.kin.Tie as tie
 
 abbrev is : ℕ → ℕ → Bool
 is c a = eqb a c
