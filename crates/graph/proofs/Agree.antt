@@ -20,8 +20,9 @@ use Rattle.tables.specs.Trailer.{tablesOf}
 use Rattle.tables.specs.Fields.{entryOf, nodeNumber, parentOf, flowFrom, flowTo, callNode, catchFrom, catchException, catchTo}
 use Rattle.tables.specs.Family.{climb, nearest}
 use Rattle.refuse.specs.Bad.{notAbove, flowRow, callRow, catchRow, countBad, lengthBad, entryBad, nodeBad, flowBad, callBad, parentBad, kin, throwsOther, catchBad, uncalled, openingBad}
-use Rattle.graph.specs.Places.{badNodeAt, noCallRowAt}
-use Rattle.graph.specs.Judge.{refused, judgeRows, judgeIn, judgeOf}
+use Rattle.graph_places.specs.Places.{badNodeAt, noCallRowAt}
+use Rattle.graph_scan.specs.Scan.{refused}
+use Rattle.graph.specs.Judge.{judgeRows, judgeIn, judgeOf}
 use Rattle.tables.proofs.SameRows.{SameRows, SameOpening, SameFields, same-counts, same-tables, same-fields, same-parents, same-opening-count}
 
 -- two answers with the same number, the same type and the same place

@@ -18,8 +18,9 @@ use Rattle.answer.proofs.Settled.{says-only, says}
 use Rattle.tables.specs.declared.Tables.{Tables}
 use Rattle.tables.specs.Trailer.{tablesOf}
 use Rattle.refuse.specs.Bad.{countBad, lengthBad, entryBad, nodeBad, flowBad, callBad, parentBad, catchBad, uncalled, openingBad}
-use Rattle.graph.specs.Places.{badNodeAt, noCallRowAt}
-use Rattle.graph.specs.Judge.{refused, judgeRows, judgeIn, judgeOf}
+use Rattle.graph_places.specs.Places.{badNodeAt, noCallRowAt}
+use Rattle.graph_scan.specs.Scan.{refused}
+use Rattle.graph.specs.Judge.{judgeRows, judgeIn, judgeOf}
 use Rattle.graph.specs.Meaning.{Given, turnOf, Before, Judges, refuses, passes}
 
 module _ (f : List ℕ) where

@@ -15,8 +15,9 @@ use Rattle.answer.specs.declared.Answer.the-variants.{Pass, TooShort, BadCount,
 use Rattle.answer.specs.Number.{numberOf}
 use Rattle.tables.specs.declared.Tables.{Tables}
 use Rattle.refuse.specs.Bad.{countBad, lengthBad, entryBad, nodeBad, flowBad, callBad, parentBad, catchBad, uncalled, openingBad}
-use Rattle.graph.specs.Places.{badNodeAt, noCallRowAt}
-use Rattle.graph.specs.Judge.{refused, judgeRows, judgeIn}
+use Rattle.graph_places.specs.Places.{badNodeAt, noCallRowAt}
+use Rattle.graph_scan.specs.Scan.{refused}
+use Rattle.graph.specs.Judge.{judgeRows, judgeIn}
 
 -- a refusal does not pass, so what comes next does
 cond-pass : (b : Bool) (refusal next : Answer) → cond b refusal next ≡ Pass → 0 < numberOf refusal → (b ≡ false) × (next ≡ Pass)

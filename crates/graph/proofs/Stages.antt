@@ -19,9 +19,9 @@ use Rattle.tables.specs.Fields.{callNode}
 use Rattle.refuse.specs.Bad.{named, uncalled, entryBad, nodeBad, flowBad, callBad, parentBad, catchBad, openingBad}
 use Rattle.rows.specs.Rows.{Rises, Sorted, callsOf, noRows}
 use Rattle.rows.proofs.Stretches.{in-stretch, of-stretch}
-use Rattle.graph.specs.Places.{badNodeAt, noCallRowAt}
-use Rattle.graph.specs.Judge.{refused, judgeRows}
-use Rattle.graph.specs.Scan.{judgeTables}
+use Rattle.graph_places.specs.Places.{badNodeAt, noCallRowAt}
+use Rattle.graph.specs.Judge.{judgeRows}
+use Rattle.graph_scan.specs.Scan.{refused, judgeTables}
 use Rattle.graph.proofs.Passed.{rows-pass}
 use Rattle.graph.proofs.Rises.{sorted}
 

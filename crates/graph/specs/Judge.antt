@@ -1,20 +1,16 @@
 -- What comes back of a graph file: numbers 1 to 9, 15 and 17, and 0.
 use Prim.Native.Nat.{ℕ}
-use mathlib.Core.Bool.{Bool, cond}
+use mathlib.Core.Bool.{cond}
 use mathlib.Core.List.{List}
 use lib.ListN.{length}
 use lib.Dec.{ltb}
-use Rattle.words.specs.Lowest.{lowest}
 use Rattle.answer.specs.declared.Answer.{Answer}
 use Rattle.answer.specs.declared.Answer.the-variants.{Pass, TooShort, BadCount, BadLength, BadEntry, BadFlow, BadCall, BadParent, BadCatch, BadOpening}
 use Rattle.tables.specs.declared.Tables.{Tables}
 use Rattle.tables.specs.Trailer.{tablesOf}
-use Rattle.graph.specs.Places.{badNodeAt, noCallRowAt}
+use Rattle.graph_places.specs.Places.{badNodeAt, noCallRowAt}
+use Rattle.graph_scan.specs.Scan.{refused}
 use Rattle.refuse.specs.Bad.{countBad, lengthBad, entryBad, nodeBad, flowBad, callBad, parentBad, catchBad, uncalled, openingBad}
-
--- within a table the lowest row; where no row is refused, what comes next
-abbrev pub refused : (ℕ → Bool) → ℕ → (ℕ → Answer) → Answer → Answer
-refused bad rows answer next = cond (ltb (lowest bad rows) rows) (answer (lowest bad rows)) next
 
 -- The first that applies, in this order, for a file whose trailer says t: 4 to 7, 15, 8, 17, 9,
 unfoldable pub judgeRows : List ℕ → Tables → Answer

@@ -26,7 +26,7 @@ use Rattle.model.proofs.Exact.{never-overdraws-at}
 use Rattle.tables.specs.Trailer.{tablesOf}
 use Rattle.tables.specs.Fields.{entryOf, nodeNumber, nodeLine}
 use Rattle.graph.specs.Judgement.{shapeOf}
-use Rattle.graph.specs.Places.{overdrawnAt}
+use Rattle.graph_places.specs.Places.{overdrawnAt}
 use Rattle.graph.proofs.Passed.{judge-few}
 use Rattle.nodes.specs.Nodes.{openingIn}
 use Rattle.nodes.specs.Program.{Brings, Overdrawing}

@@ -17,7 +17,7 @@ use Rattle.model.specs.Program.{steps}
 use Rattle.model.proofs.Alike.{rule-alike, rule-at-alike}
 use Rattle.tables.specs.Trailer.{tablesOf}
 use Rattle.tables.specs.Fields.{nodeNumber}
-use Rattle.graph.specs.Places.{overdrawnAt}
+use Rattle.graph_places.specs.Places.{overdrawnAt}
 use Rattle.graph.specs.Judge.{judgeOf}
 use Rattle.graph.specs.Judgement.{shapeOf}
 use Rattle.graph.specs.Graph.{graphOf}

@@ -11,7 +11,7 @@ use Rattle.answer.specs.Number.{Says, SaysAs}
 use Rattle.effect.specs.Meaning.{LowestFailing}
 use Rattle.model.specs.Program.{doings}
 use Rattle.tables.specs.Trailer.{tablesOf}
-use Rattle.graph.specs.Places.{overdrawnAt}
+use Rattle.graph_places.specs.Places.{overdrawnAt}
 use Rattle.graph.specs.Judge.{judgeOf}
 use Rattle.nodes.specs.Program.{programOf}
 use Rattle.layout.specs.Layout.{blockCount, blockAt, sheetBytes}

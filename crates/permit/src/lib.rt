@@ -54,7 +54,7 @@ pub fn verdict(f: &[u8], t: Tables, x: Shape, s: &[u8]) -> Answer
 {
     let n = first_uncovered(f, t, x, s);
     if n < t.nodes {
-        return graph::overdrawn_at(f, t, n);
+        return graph_places::overdrawn_at(f, t, n);
     }
     Answer::Pass
 }

@@ -9,7 +9,7 @@ use Rattle.answer.proofs.Settled.{says}
 use Rattle.tables.specs.declared.Tables.{Tables}
 use Rattle.tables.specs.Trailer.{tablesOf}
 use Rattle.tables.specs.Fields.{nodeKind, nodeNumber, nodeCount, nodeRights}
-use Rattle.graph.specs.Places.{unfitAt}
+use Rattle.graph_places.specs.Places.{unfitAt}
 use Rattle.graph.specs.Judge.{judgeOf}
 use Rattle.graph.specs.Lines.{SameButLines}
 use Rattle.graph.specs.Graph.{CatchRow, OfKind}

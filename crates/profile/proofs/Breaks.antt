@@ -21,7 +21,7 @@ use Rattle.tables.specs.Trailer.{tablesOf}
 use Rattle.tables.specs.Kinds.{grantKind, drawKind}
 use Rattle.tables.specs.Fields.{nodeMethod, nodeKind, nodeNumber, nodeCount, nodeRights, flowFrom, flowTo, catchFrom, catchException, catchTo, entryOf, callNode, callMethod}
 use Rattle.refuse.proofs.Fit.{entry-fit, flow-fit, call-fit, catch-fit}
-use Rattle.graph.specs.Places.{unfitAt}
+use Rattle.graph_places.specs.Places.{unfitAt}
 use Rattle.graph.specs.Judge.{judgeOf}
 use Rattle.graph.specs.Graph.{OfKind}
 use Rattle.graph.proofs.Passed.{judged}

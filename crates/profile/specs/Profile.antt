@@ -10,7 +10,7 @@ use Rattle.tables.specs.declared.Tables.{Tables}
 use Rattle.tables.specs.Trailer.{tablesOf}
 use Rattle.tables.specs.Kinds.{grantKind, drawKind}
 use Rattle.tables.specs.Fields.{entryOf, nodeMethod, nodeKind, nodeNumber, nodeCount, nodeRights}
-use Rattle.graph.specs.Places.{unfitAt}
+use Rattle.graph_places.specs.Places.{unfitAt}
 use Rattle.graph.specs.Judge.{judgeOf}
 use Rattle.graph.specs.Graph.{FlowRow, CallRow, CatchRow, OfKind}
 

@@ -150,7 +150,7 @@ fn profiled(f: &[u8], profile: Profile) -> Answer
         let t = j.tables;
         let n = breaking(f, t, profile);
         if n < t.nodes as usize {
-            return graph::unfit_at(f, t, n as u16);
+            return graph_places::unfit_at(f, t, n as u16);
         }
         return Answer::Pass;
     }

@@ -12,7 +12,7 @@ use Rattle.effect.specs.Coordinate.{right, count, at}
 use Rattle.model.specs.Rules.{Under}
 use Rattle.model.specs.Stocks.{permits}
 use Rattle.tables.specs.Trailer.{tablesOf}
-use Rattle.graph.specs.Places.{overdrawnAt}
+use Rattle.graph_places.specs.Places.{overdrawnAt}
 use Rattle.graph.specs.Judge.{judgeOf}
 use Rattle.nodes.specs.Program.{programOf, Brings, Overdrawing}
 use Rattle.layout.specs.Layout.{sheetBytes}

@@ -4,7 +4,7 @@ use denote.Ref.{now}
 use borrow.Author.Needs.{needs}
 use borrow.Author.Tests.{lt-ltb, le-ltb}
 use Rattle.words.specs.Lowest.{lowest}
-use Rattle.graph.specs.Places.{overdrawnAt}
+use Rattle.graph_places.specs.Places.{overdrawnAt}
 use Rattle.permit.specs.Check.{uncoveredAt}
 use Rattle.permit.proofs.verdict.Statement.{statement}
 use Rattle.permit.proofs.verdict.Tie as tie

@@ -1,7 +1,7 @@
 use borrow.Author.Tests.{lt-ltb, le-ltb}
 use borrow.Author.Needs.{needs}
-use Rattle.graph.proofs.refused.Statement.{statement}
-use Rattle.graph.proofs.refused.Tie as tie
+use Rattle.graph_scan.proofs.refused.Statement.{statement}
+use Rattle.graph_scan.proofs.refused.Tie as tie
 
 returns : tie.Need-returns
 returns c = rw (← c .before .before .before .lowest-bad .ensures, ← c .before .before .rows .ensures, lt-ltb _ _ (c .before .if1 .taken)) (c .bad-row .ensures)

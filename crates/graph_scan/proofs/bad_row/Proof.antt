@@ -1,5 +1,5 @@
-use Rattle.graph.proofs.bad_row.Statement.{statement}
-use Rattle.graph.proofs.bad_row.Tie as tie
+use Rattle.graph_scan.proofs.bad_row.Statement.{statement}
+use Rattle.graph_scan.proofs.bad_row.Tie as tie
 use borrow.Author.Needs.{needs}
 
 returns : tie.Need-returns

@@ -1,7 +1,7 @@
-use Rattle.graph.specs.Scan.{judgeTables}
+use Rattle.graph_scan.specs.Scan.{judgeTables}
 use borrow.Author.Needs.{needs}
-use Rattle.graph.proofs.judge_tables.Statement.{statement}
-use Rattle.graph.proofs.judge_tables.Tie as tie
+use Rattle.graph_scan.proofs.judge_tables.Statement.{statement}
+use Rattle.graph_scan.proofs.judge_tables.Tie as tie
 
 returns : tie.Need-returns
 unfolding judgeTables

@@ -1,15 +1,20 @@
 -- What is refused of the tables, and of the trailer's counts as one more.
 use Prim.Native.Nat.{ℕ}
-use mathlib.Core.Bool.{Bool}
+use mathlib.Core.Bool.{Bool, cond}
 use mathlib.Core.List.{List}
+use lib.Dec.{ltb}
+use Rattle.words.specs.Lowest.{lowest}
 use Rattle.answer.specs.declared.Answer.{Answer}
 use Rattle.answer.specs.declared.Answer.the-variants.{BadCount, BadEntry, BadFlow, BadCall, BadParent, BadCatch, BadOpening}
 use Rattle.tables.specs.declared.Tables.{Tables}
 use Rattle.tables.specs.declared.Table.{Table}
 use Rattle.tables.specs.declared.Table.the-variants.{Trailer, Methods, Nodes, Flow, Calls, Parents, Catches, Opening}
-use Rattle.graph.specs.Places.{badNodeAt}
-use Rattle.graph.specs.Judge.{refused}
+use Rattle.graph_places.specs.Places.{badNodeAt}
 use Rattle.refuse.specs.Bad.{countBad, entryBad, nodeBad, flowBad, callBad, parentBad, catchBad, openingBad}
+
+-- within a table the lowest row; where no row is refused, what comes next
+abbrev pub refused : (ℕ → Bool) → ℕ → (ℕ → Answer) → Answer → Answer
+refused bad rows answer next = cond (ltb (lowest bad rows) rows) (answer (lowest bad rows)) next
 
 -- which rows of the table are refused
 abbrev pub rowBad : List ℕ → Tables → Table → ℕ → Bool

@@ -4,9 +4,9 @@ use denote.Ref.{now}
 use borrow.Author.Count.{below-more, below-none}
 use borrow.Author.Needs.{needs}
 use Rattle.words.proofs.Lowest.{NoneBelow, scan-found, scan-none}
-use Rattle.graph.specs.Scan.{rowBad}
-use Rattle.graph.proofs.lowest_bad.Statement.{statement}
-use Rattle.graph.proofs.lowest_bad.Tie as tie
+use Rattle.graph_scan.specs.Scan.{rowBad}
+use Rattle.graph_scan.proofs.lowest_bad.Statement.{statement}
+use Rattle.graph_scan.proofs.lowest_bad.Tie as tie
 
 abbrev Inv-loop : tie.InvT-loop
 Inv-loop f t table n k₀ k = (k ≤ n) × NoneBelow (rowBad f t table) k

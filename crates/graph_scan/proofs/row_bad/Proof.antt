@@ -1,6 +1,6 @@
 use borrow.Author.Needs.{needs}
-use Rattle.graph.proofs.row_bad.Statement.{statement}
-use Rattle.graph.proofs.row_bad.Tie as tie
+use Rattle.graph_scan.proofs.row_bad.Statement.{statement}
+use Rattle.graph_scan.proofs.row_bad.Tie as tie
 
 returns : tie.Need-returns
 returns c = rw (c .before .enum-told .given .1) (c .count-bad .ensures)
