@@ -24,7 +24,7 @@ fn tell(f: &[u8], j: Judgement, s: &[u8], a: Answer, out: &mut [u8]) -> usize
     let t = j.tables;
     let x = j.shape;
     sheet::blank(out);
-    text::put_listing(out, 0, a, f, t, x, s)
+    text_listing::put_listing(out, 0, a, f, t, x, s)
 }
 
 // The listing of a file that has been judged, so that whoever lends the sheet judges it once.

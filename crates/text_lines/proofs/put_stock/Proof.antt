@@ -5,11 +5,11 @@ use native.Mathlib.Omega.{arith}
 use borrow.Author.Needs.{needs}
 use Rattle.effect.specs.declared.Stock.{Stock}
 use Rattle.effect.specs.Six.{heldAt}
 use Rattle.text.specs.Listing.{stockLine, stockLines}
 use Rattle.digits.specs.Puts.{Puts}
 use Rattle.digits.proofs.Join.{retext, start, turn, room}
-use Rattle.text.proofs.put_stock.Statement.{statement}
-use Rattle.text.proofs.put_stock.Tie as tie
+use Rattle.text_lines.proofs.put_stock.Statement.{statement}
+use Rattle.text_lines.proofs.put_stock.Tie as tie
 
 abbrev Inv-loop : tie.InvT-loop
 Inv-loop out₀ at n types held end₀ k₀ out end k = (k ≤ types) × Puts out₀ at (stockLines n held k) out end

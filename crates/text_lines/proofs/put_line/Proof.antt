@@ -1,11 +1,11 @@
 use borrow.Author.Needs.{needs}
 use native.Mathlib.Omega.{arith}
 use Rattle.text.specs.Listing.{stockLine}
 use Rattle.digits.specs.Text.{ascii}
 use Rattle.digits.proofs.Join.{_then_, rest}
 use Rattle.text.proofs.Lengths.{line-length}
-use Rattle.text.proofs.put_line.Statement.{statement}
-use Rattle.text.proofs.put_line.Tie as tie
+use Rattle.text_lines.proofs.put_line.Statement.{statement}
+use Rattle.text_lines.proofs.put_line.Tie as tie
 
 put-decimal-requires : tie.Need-put-decimal-requires
 put-decimal-requires c κs = (search needs, let a = c .before .before .args in omega (arith, line-length (a .n) (a .k) (a .h)))

@@ -7,10 +7,10 @@ use denote.Ref.{now}
 use lib.Dec.{eqb}
 use Rattle.digits.specs.Text.{joined}
 use Rattle.digits.proofs.Join.{retext, _then_, rest}
 use Rattle.text.specs.Listing.{nodeLines}
 use Rattle.text.proofs.Lengths.{is-full, is-short, first-fits}
-use Rattle.text.proofs.put_listing.Statement.{statement}
-use Rattle.text.proofs.put_listing.Tie as tie
+use Rattle.text_listing.proofs.put_listing.Statement.{statement}
+use Rattle.text_listing.proofs.put_listing.Tie as tie
 
 -- the test on the number that was found
 verdict : ℕ → Bool

@@ -1,8 +1,8 @@
 use borrow.Author.Needs.{needs}
 use borrow.Author.Tests.{eq-eqb, ne-eqb}
 use Rattle.text.specs.Listing.{countText}
-use Rattle.text.proofs.put_count.Statement.{statement}
-use Rattle.text.proofs.put_count.Tie as tie
+use Rattle.text_lines.proofs.put_count.Statement.{statement}
+use Rattle.text_lines.proofs.put_count.Tie as tie
 
 put-byte-requires : tie.Need-put-byte-requires
 unfolding countText

@@ -3,9 +3,9 @@ use native.Mathlib.Omega.{arith}
 use mathlib.Core.Path.{sym}
 use denote.Ref.{now}
 use Rattle.digits.proofs.Join.{none, retext}
 use Rattle.text.proofs.Lengths.{is-listed, is-unlisted}
-use Rattle.text.proofs.put_node.Statement.{statement}
-use Rattle.text.proofs.put_node.Tie as tie
+use Rattle.text_listing.proofs.put_node.Statement.{statement}
+use Rattle.text_listing.proofs.put_node.Tie as tie
 
 put-stock-requires : tie.Need-put-stock-requires
 put-stock-requires c κs =

@@ -3,11 +3,11 @@ use mathlib.Core.Path.{_≡_, ap}
 use native.Mathlib.Omega.{arith}
 use borrow.Author.Needs.{needs}
 use Rattle.digits.specs.Text.{joined}
 use Rattle.text.specs.Listing.{nodeLines}
 use Rattle.digits.specs.Puts.{Puts}
 use Rattle.digits.proofs.Join.{retext, start, turn, room}
-use Rattle.text.proofs.put_nodes.Statement.{statement}
-use Rattle.text.proofs.put_nodes.Tie as tie
+use Rattle.text_listing.proofs.put_nodes.Statement.{statement}
+use Rattle.text_listing.proofs.put_nodes.Tie as tie
 
 abbrev Inv-loop : tie.InvT-loop
 Inv-loop out₀ at f t x s end₀ n₀ out end n = (n ≤ x .nodes) × Puts out₀ at (joined (nodeLines f t x s) n) out end
