@@ -30,7 +30,7 @@ use Rattle.sheet.specs.Under.{effectUnder, stockUnder}
 use Rattle.rounds.specs.Rounds.{wholeOf, roundsOf}
 use Rattle.demand.specs.Demand.{goesIn, steppedIn, calledIn}
 use Rattle.demand.specs.Walk.{rowsWalk, leavingWalk, startWalk, entryWalk, flowWalk, endWalk, nodeWalk, afterWalk, intoWalk, thrownWalk, calledWalk, tableWalk, tablesWalk, sheetWalk}
-use Rattle.permit.specs.Check.{uncoveredAt, verdictOf}
+use Rattle.accept_draws.specs.Draws.{uncoveredAt, verdictOf}
 use Rattle.lower.specs.Lower.{effectTo, stockTo}
 use Rattle.sweep.specs.Sweep.{sheetOf, wroteOf, lowers, sweepOf}
 use Rattle.work.specs.Swept.{unswept, again}

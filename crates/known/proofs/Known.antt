@@ -28,7 +28,8 @@ use Rattle.rounds.specs.Rounds.{wholeOf, roundsOf}
 use Rattle.demand.specs.Demand.{goesIn, steppedIn, calledIn}
 use Rattle.demand.specs.Walk.{rowsWalk, leavingWalk, startWalk, entryWalk, flowWalk, endWalk, nodeWalk, afterWalk, intoWalk, thrownWalk, calledWalk, tableWalk, tablesWalk, sheetWalk}
 use Rattle.rules.specs.Keys.{lessened, leastKey}
-use Rattle.permit.specs.Check.{uncoveredAt, wholeSheet, judgedSheet, checkOf}
+use Rattle.accept_draws.specs.Draws.{uncoveredAt}
+use Rattle.permit.specs.Check.{wholeSheet, judgedSheet, checkOf}
 use Rattle.known.specs.File.{words, nodeRows, pairs, triples, distance, fileBytes}
 use Rattle.known.specs.Table.{aWith, revoked, withoutRight, neverReturns, table, ownRowFirst, beside}
 use Rattle.known.specs.Known.{AllKnown}

@@ -28,7 +28,7 @@ use Rattle.sheet.specs.Read.{marked}
 use Rattle.sheet.proofs.Marked.{mark-true, true-mark}
 use Rattle.rules.specs.Sheet.{stockIn, IsReached}
 use Rattle.effect.proofs.Bools.{clash}
-use Rattle.permit.specs.Check.{uncoveredAt}
+use Rattle.accept_draws.specs.Draws.{uncoveredAt}
 use Rattle.permit.specs.Meaning.{IsCovered}
 
 -- what is no draw is covered by every stock

@@ -36,7 +36,8 @@ use Rattle.formed.specs.Ill.{illBlock, firstIll}
 use Rattle.rules.specs.Keys.{noKey, leastKey}
 use Rattle.rules.specs.Sheet.{sheet, WellFormed, Holds, HoldsAt, IsReached}
 use Rattle.rules.proofs.Exact.{rules-below, rule-broken, rules-beyond, type-lowest}
-use Rattle.permit.specs.Check.{uncoveredAt, wholeSheet, judgedSheet, checkOf}
+use Rattle.accept_draws.specs.Draws.{uncoveredAt}
+use Rattle.permit.specs.Check.{wholeSheet, judgedSheet, checkOf}
 use Rattle.permit.specs.Meaning.{IsCovered, Checks, refused, wrong-length, ill-formed, broken, overdrawn, accepted}
 use Rattle.permit.proofs.Draws.{uncovered-says, covered-says}
 

@@ -1,35 +1,21 @@
 -- What check answers, computed: the first that applies.
 use Prim.Native.Nat.{ℕ, _/_, _%_}
-use mathlib.Core.Bool.{Bool, cond, _&&_, not}
+use mathlib.Core.Bool.{cond}
 use mathlib.Core.List.{List}
 use lib.ListN.{length}
 use lib.Dec.{ltb, eqb}
-use Rattle.words.specs.Lowest.{lowest}
 use Rattle.answer.specs.declared.Answer.{Answer}
-use Rattle.answer.specs.declared.Answer.the-variants.{Pass, BadSheet, BadBlock, Broken}
+use Rattle.answer.specs.declared.Answer.the-variants.{BadSheet, BadBlock, Broken}
 use Rattle.answer.specs.Number.{numberOf}
-use Rattle.effect.specs.Whole.{coversOf}
 use Rattle.tables.specs.declared.Tables.{Tables}
 use Rattle.tables.specs.Trailer.{tablesOf}
-use Rattle.tables.specs.Kinds.{drawKind}
-use Rattle.tables.specs.Fields.{nodeKind, nodeNumber, nodeRights}
-use Rattle.graph_places.specs.Places.{overdrawnAt}
 use Rattle.graph.specs.Judge.{judgeOf}
 use Rattle.graph.specs.Judgement.{shapeOf}
 use Rattle.layout.specs.declared.Shape.{Shape}
 use Rattle.layout.specs.Layout.{blockCount, blockAt, sheetBytes}
 use Rattle.formed.specs.Ill.{firstIll}
 use Rattle.rules.specs.Keys.{noKey, leastKey}
-use Rattle.listing.specs.Node.{isReached, nodeStock}
-
--- node n is a draw that is reached and not covered
-unfoldable pub uncoveredAt : List ℕ → Tables → Shape → List ℕ → ℕ → Bool
-uncoveredAt f t x s n =
-    eqb (nodeKind f t n) drawKind && (isReached f t x s n && not (coversOf (nodeStock f t x s n) (nodeNumber f t n) (nodeRights f t n)))
-
--- 13 overdrawn, 0 pass
-abbrev pub verdictOf : List ℕ → Tables → Shape → List ℕ → Answer
-verdictOf f t x s = cond (ltb (lowest (uncoveredAt f t x s) (t .nodes)) (t .nodes)) (overdrawnAt f t (lowest (uncoveredAt f t x s) (t .nodes))) Pass
+use Rattle.accept_draws.specs.Draws.{verdictOf}
 
 -- 12 a sheet rule is broken: the rule and the type that the least key names; else the verdict
 unfoldable pub wholeSheet : List ℕ → Tables → Shape → List ℕ → Answer

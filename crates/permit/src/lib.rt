@@ -5,7 +5,6 @@ use tables::Tables;
 ghost use mathlib.Core.Path.{_≡_};
 ghost use Prim.Native.Nat.{ℕ, _+_, _*_, _≤_, _<_};
 ghost use lib.ListN.{length, set};
-ghost use Rattle.words.specs.Lowest.{lowest};
 ghost use Rattle.answer.specs.declared.Answer.the-variants.{Pass};
 ghost use Rattle.answer.specs.Number.{numberOf, placeOf};
 ghost use Rattle.tables.specs.Trailer.{tablesOf};
@@ -14,50 +13,9 @@ ghost use Rattle.rows.specs.Rows.{Sorted};
 ghost use Rattle.nodes.specs.Program.{Safe};
 ghost use Rattle.layout.specs.Layout.{Within, sheetBytes};
 ghost use Rattle.rules.specs.Sheet.{shape};
-ghost use Rattle.permit.specs.Check.{uncoveredAt, verdictOf, judgedSheet, wholeSheet, checkOf};
+ghost use Rattle.permit.specs.Check.{judgedSheet, wholeSheet, checkOf};
 ghost use Rattle.permit.specs.Meaning.{Checks};
 ghost use Rattle.permit.specs.Many.{Counts, Told, ChecksMany, SafeRow};
-
-// Node n is a draw, the sheet calls it reached, and its stock there does not cover it. Judged before the node's own step.
-fn uncovered(f: &[u8], t: Tables, x: Shape, s: &[u8], n: u16) -> bool
-    ensures { λ r. ⌜ r ≡ uncoveredAt (now (f .entry)) t x (now (s .entry)) n ⌝ }
-{
-    if tables::node_kind(f, t, n) != tables::DRAW {
-        return false;
-    }
-    if listing::reached(f, t, x, s, n) {
-        let number = tables::node_number(f, t, n);
-        let rights = tables::node_rights(f, t, n);
-        return !listing::covers(f, t, x, s, n, number as usize, rights);
-    }
-    false
-}
-
-// The lowest node that is not covered, or how many nodes there are.
-fn first_uncovered(f: &[u8], t: Tables, x: Shape, s: &[u8]) -> u16
-    ensures { λ r. ⌜ r ≡ lowest (uncoveredAt (now (f .entry)) t x (now (s .entry))) (t .nodes) ⌝ }
-{
-    let count = t.nodes;
-    let mut n = 0;
-    while n < count {
-        if uncovered(f, t, x, s, n) {
-            return n;
-        }
-        n += 1;
-    }
-    count
-}
-
-// The draws: 13 with the lowest node that is not covered, or 0.
-pub fn verdict(f: &[u8], t: Tables, x: Shape, s: &[u8]) -> Answer
-    ensures { λ r. ⌜ r ≡ verdictOf (now (f .entry)) t x (now (s .entry)) ⌝ }
-{
-    let n = first_uncovered(f, t, x, s);
-    if n < t.nodes {
-        return graph_places::overdrawn_at(f, t, n);
-    }
-    Answer::Pass
-}
 
 // The rules and the draws, of a sheet with no ill-formed block.
 fn of_whole(f: &[u8], t: Tables, x: Shape, s: &[u8]) -> Answer
@@ -68,7 +26,7 @@ fn of_whole(f: &[u8], t: Tables, x: Shape, s: &[u8]) -> Answer
     if key < rules::NONE {
         return Answer::Broken((key / 8) as u16, (key % 8) as u16);
     }
-    verdict(f, t, x, s)
+    accept_draws::verdict(f, t, x, s)
 }
 
 // The sheet, for a file that passes.

@@ -32,7 +32,7 @@ use Rattle.layout.specs.Layout.{blockCount, sheetBytes}
 use Rattle.formed.specs.Ill.{illBlock, firstIll}
 use Rattle.formed.specs.Sheet.{sheetIn}
 use Rattle.rules.specs.Sheet.{WellFormed, Holds, IsReached, stockIn}
-use Rattle.permit.specs.Check.{uncoveredAt}
+use Rattle.accept_draws.specs.Draws.{uncoveredAt}
 use Rattle.permit.specs.Meaning.{IsCovered}
 use Rattle.permit.proofs.Draws.{uncovered-says, covered-says}
 use Rattle.work.specs.Meaning.{Worked, WorksOut, overdrawn, passes}

@@ -14,7 +14,7 @@ use Rattle.layout.specs.declared.Shape.{Shape}
 use Rattle.layout.specs.Layout.{sheetBytes}
 use Rattle.sheet.specs.Write.{blanked}
 use Rattle.rules.proofs.Exact.{rules-kept}
-use Rattle.permit.specs.Check.{verdictOf}
+use Rattle.accept_draws.specs.Draws.{verdictOf}
 use Rattle.lower.proofs.Good.{height, Good}
 use Rattle.lower.proofs.Block.{blank-good}
 use Rattle.sweep.specs.Ready.{Ready}

@@ -34,7 +34,7 @@ fn of_passed(f: &[u8], t: Tables, x: Shape, s: &mut [u8]) -> Answer
         return Answer::BadSheet;
     }
     settle(f, t, x, s);
-    permit::verdict(f, t, x, s)
+    accept_draws::verdict(f, t, x, s)
 }
 
 // Work out for a file that has been judged, so that whoever lends the sheet judges it once.

@@ -5,9 +5,9 @@ use borrow.Author.Needs.{needs}
 use borrow.Author.Tests.{lt-ltb, le-ltb}
 use Rattle.words.specs.Lowest.{lowest}
 use Rattle.graph_places.specs.Places.{overdrawnAt}
-use Rattle.permit.specs.Check.{uncoveredAt}
-use Rattle.permit.proofs.verdict.Statement.{statement}
-use Rattle.permit.proofs.verdict.Tie as tie
+use Rattle.accept_draws.specs.Draws.{uncoveredAt}
+use Rattle.accept_draws.proofs.verdict.Statement.{statement}
+use Rattle.accept_draws.proofs.verdict.Tie as tie
 
 returns : tie.Need-returns
 returns c =

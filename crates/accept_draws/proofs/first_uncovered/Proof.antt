@@ -5,9 +5,9 @@ use denote.Ref.{now}
 use borrow.Author.Count.{below-more, below-none}
 use borrow.Author.Needs.{needs}
 use Rattle.words.proofs.Lowest.{NoneBelow, scan-found, scan-none}
-use Rattle.permit.specs.Check.{uncoveredAt}
-use Rattle.permit.proofs.first_uncovered.Statement.{statement}
-use Rattle.permit.proofs.first_uncovered.Tie as tie
+use Rattle.accept_draws.specs.Draws.{uncoveredAt}
+use Rattle.accept_draws.proofs.first_uncovered.Statement.{statement}
+use Rattle.accept_draws.proofs.first_uncovered.Tie as tie
 
 abbrev Inv-loop : tie.InvT-loop
 Inv-loop f t x s count n₀ n = (n ≤ count) × NoneBelow (uncoveredAt f t x s) n

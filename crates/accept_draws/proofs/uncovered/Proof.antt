@@ -8,9 +8,9 @@ use Rattle.effect.specs.Whole.{coversOf}
 use Rattle.tables.specs.Kinds.{drawKind}
 use Rattle.tables.specs.Fields.{nodeKind}
 use Rattle.listing.specs.Node.{isReached, nodeStock}
-use Rattle.permit.specs.Check.{uncoveredAt}
-use Rattle.permit.proofs.uncovered.Statement.{statement}
-use Rattle.permit.proofs.uncovered.Tie as tie
+use Rattle.accept_draws.specs.Draws.{uncoveredAt}
+use Rattle.accept_draws.proofs.uncovered.Statement.{statement}
+use Rattle.accept_draws.proofs.uncovered.Tie as tie
 
 returns : tie.Need-returns
 unfolding uncoveredAt
