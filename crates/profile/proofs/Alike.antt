@@ -18,10 +18,10 @@ use Rattle.tables.proofs.SameRows.{SameRows, SameOpening, SameFields, same-tabl
 use Rattle.graph.proofs.Alike.{alike}
 use Rattle.graph.proofs.Lines.{same-rows, same-opening}
 use Rattle.graph.proofs.Agree.{Agree, agree, said, judged-alike, pass-alike}
-use Rattle.profile.specs.declared.Profile.{Profile}
-use Rattle.profile.specs.declared.Profile.the-variants.{OneShot, Session}
+use Rattle.profile_looks.specs.declared.Profile.{Profile}
+use Rattle.profile_looks.specs.declared.Profile.the-variants.{OneShot, Session}
 use Rattle.profile.specs.Profile.{Asks, BreaksOneShot, by-flow, by-entry, by-catch, BreaksSession, by-grant, by-call, Profiled, refused, unfit, fits}
-use Rattle.profile.specs.Looks.{Breaks}
+use Rattle.profile.specs.Breaks.{Breaks}
 use Rattle.profile.proofs.Breaks.{only}
 
 module _ (f g : List ℕ) (A : SameRows f g) where

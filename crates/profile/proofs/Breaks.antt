@@ -25,12 +25,13 @@ use Rattle.graph_places.specs.Places.{unfitAt}
 use Rattle.graph.specs.Judge.{judgeOf}
 use Rattle.graph.specs.Graph.{OfKind}
 use Rattle.graph.proofs.Passed.{judged}
-use Rattle.profile.specs.declared.Look.the-variants.{Flow, Entry, Catch, Grant, Call}
-use Rattle.profile.specs.declared.Profile.{Profile}
-use Rattle.profile.specs.declared.Profile.the-variants.{OneShot, Session}
+use Rattle.profile_looks.specs.declared.Look.the-variants.{Flow, Entry, Catch, Grant, Call}
+use Rattle.profile_looks.specs.declared.Profile.{Profile}
+use Rattle.profile_looks.specs.declared.Profile.the-variants.{OneShot, Session}
 use Rattle.profile.specs.Profile.{Asks, BreaksOneShot, by-flow, by-entry, by-catch, BreaksSession, by-grant, by-call, Profiled, refused, unfit, fits}
-use Rattle.profile.specs.Looks.{isDraw, asks, lowestOf, breaking, Breaks}
-use Rattle.profile.proofs.Looks.{Convicted, under, hit}
+use Rattle.profile_looks.specs.Looks.{isDraw, asks, lowestOf, breaking}
+use Rattle.profile.specs.Breaks.{Breaks}
+use Rattle.profile_looks.proofs.Looks.{Convicted, under, hit}
 
 -- the smaller of two numbers has what each has below a limit
 one-of : (P : ℕ → Type 0) (top a b : ℕ) → (a < top → P a) → (b < top → P b) → min a b < top → P (min a b)

@@ -1,4 +1,3 @@
-pub mod Looks
 pub mod Breaks
 pub mod OneShot
 pub mod Alike

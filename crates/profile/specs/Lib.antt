@@ -1,2 +1,2 @@
 pub mod Profile
-pub mod Looks
+pub mod Breaks

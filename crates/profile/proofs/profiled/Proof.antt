@@ -7,7 +7,7 @@ use Rattle.answer.proofs.Settled.{says}
 use Rattle.answer.proofs.Unpack.{zero-pass}
 use Rattle.graph.specs.Judge.{judgeOf}
 use Rattle.profile.specs.Profile.{Profiled, refused}
-use Rattle.profile.specs.Looks.{Breaks}
+use Rattle.profile.specs.Breaks.{Breaks}
 use Rattle.profile.proofs.Breaks.{unfit-at, fits-all}
 use Rattle.profile.proofs.profiled.Statement.{statement}
 use Rattle.profile.proofs.profiled.Tie as tie

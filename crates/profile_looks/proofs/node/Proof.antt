@@ -1,6 +1,6 @@
 use borrow.Author.Needs.{needs}
-use Rattle.profile.proofs.node.Statement.{statement}
-use Rattle.profile.proofs.node.Tie as tie
+use Rattle.profile_looks.proofs.node.Statement.{statement}
+use Rattle.profile_looks.proofs.node.Tie as tie
 
 returns : tie.Need-returns
 returns c = rw (c .before .enum-told .given .1) (c .flow-to .ensures)

@@ -8,11 +8,10 @@ use Rattle.words.specs.Least.{leastOf}
 use Rattle.tables.specs.declared.Tables.{Tables}
 use Rattle.tables.specs.Kinds.{grantKind, drawKind}
 use Rattle.tables.specs.Fields.{entryOf, nodeMethod, nodeKind, nodeNumber, nodeCount, nodeRights, flowFrom, flowTo, callNode, callMethod, catchTo}
-use Rattle.profile.specs.declared.Look.{Look}
-use Rattle.profile.specs.declared.Look.the-variants.{Flow, Entry, Catch, Grant, Call}
-use Rattle.profile.specs.declared.Profile.{Profile}
-use Rattle.profile.specs.declared.Profile.the-variants.{OneShot, Session}
-use Rattle.profile.specs.Profile.{BreaksOneShot, BreaksSession}
+use Rattle.profile_looks.specs.declared.Look.{Look}
+use Rattle.profile_looks.specs.declared.Look.the-variants.{Flow, Entry, Catch, Grant, Call}
+use Rattle.profile_looks.specs.declared.Profile.{Profile}
+use Rattle.profile_looks.specs.declared.Profile.the-variants.{OneShot, Session}
 
 -- how many rows the table has
 abbrev pub rowsOf : Tables → Look → ℕ
@@ -61,8 +60,3 @@ lowestOf f t look = leastOf (t .nodes) (convicted f t look) (rowsOf t look)
 abbrev pub breaking : List ℕ → Tables → Profile → ℕ
 breaking f t OneShot = min (lowestOf f t Flow) (min (lowestOf f t Entry) (lowestOf f t Catch))
 breaking f t Session = min (lowestOf f t Grant) (lowestOf f t Call)
-
--- which nodes break the profile
-abbrev pub Breaks : List ℕ → Profile → ℕ → Type 0
-Breaks f OneShot = BreaksOneShot f
-Breaks f Session = BreaksSession f

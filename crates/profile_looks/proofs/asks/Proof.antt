@@ -1,7 +1,7 @@
 use borrow.Author.Needs.{needs}
-use Rattle.profile.specs.Looks.{asks}
-use Rattle.profile.proofs.asks.Statement.{statement}
-use Rattle.profile.proofs.asks.Tie as tie
+use Rattle.profile_looks.specs.Looks.{asks}
+use Rattle.profile_looks.proofs.asks.Statement.{statement}
+use Rattle.profile_looks.proofs.asks.Tie as tie
 
 returns : tie.Need-returns
 unfolding asks

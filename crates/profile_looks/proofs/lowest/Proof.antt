@@ -7,9 +7,9 @@ use borrow.Author.Needs.{needs}
 use Rattle.words.specs.Turn.{inTurn}
 use Rattle.words.specs.Least.{leastOf}
 use Rattle.words.proofs.Least.{least-more}
-use Rattle.profile.specs.Looks.{convicted, lowestOf}
-use Rattle.profile.proofs.lowest.Statement.{statement}
-use Rattle.profile.proofs.lowest.Tie as tie
+use Rattle.profile_looks.specs.Looks.{convicted, lowestOf}
+use Rattle.profile_looks.proofs.lowest.Statement.{statement}
+use Rattle.profile_looks.proofs.lowest.Tie as tie
 
 abbrev Inv-loop : tie.InvT-loop
 Inv-loop f t look n least₀ k₀ least k = (k ≤ n) × (least ≡ leastOf (t .nodes) (convicted f t look) k)

@@ -1,8 +1,8 @@
 use Prim.Native.Nat.{min}
 use mathlib.Core.Path.{_∙_}
 use borrow.Author.Needs.{needs}
-use Rattle.profile.proofs.breaking.Statement.{statement}
-use Rattle.profile.proofs.breaking.Tie as tie
+use Rattle.profile_looks.proofs.breaking.Statement.{statement}
+use Rattle.profile_looks.proofs.breaking.Tie as tie
 
 returns : tie.Need-returns
 returns c =

@@ -7,8 +7,8 @@ use native.Mathlib.Omega.{arith}
 use Rattle.words.specs.Least.{leastOf}
 use Rattle.words.proofs.Least.{least-under, least-hit}
 use Rattle.tables.specs.declared.Tables.{Tables}
-use Rattle.profile.specs.declared.Look.{Look}
-use Rattle.profile.specs.Looks.{rowsOf, nodeOf, convicts, convicted, lowestOf}
+use Rattle.profile_looks.specs.declared.Look.{Look}
+use Rattle.profile_looks.specs.Looks.{rowsOf, nodeOf, convicts, convicted, lowestOf}
 
 -- some row of the look's table convicts the node n
 abbrev pub Convicted : List ℕ → Tables → Look → ℕ → Type 0

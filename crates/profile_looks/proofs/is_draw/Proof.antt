@@ -1,7 +1,7 @@
 use borrow.Author.Needs.{needs}
-use Rattle.profile.specs.Looks.{isDraw}
-use Rattle.profile.proofs.is_draw.Statement.{statement}
-use Rattle.profile.proofs.is_draw.Tie as tie
+use Rattle.profile_looks.specs.Looks.{isDraw}
+use Rattle.profile_looks.proofs.is_draw.Statement.{statement}
+use Rattle.profile_looks.proofs.is_draw.Tie as tie
 
 returns : tie.Need-returns
 unfolding isDraw

@@ -1,8 +1,8 @@
 use mathlib.Core.Path.{sym, _∙_}
 use borrow.Author.Needs.{needs}
-use Rattle.profile.specs.Looks.{convicted}
-use Rattle.profile.proofs.convicted.Statement.{statement}
-use Rattle.profile.proofs.convicted.Tie as tie
+use Rattle.profile_looks.specs.Looks.{convicted}
+use Rattle.profile_looks.proofs.convicted.Statement.{statement}
+use Rattle.profile_looks.proofs.convicted.Tie as tie
 
 returns : tie.Need-returns
 unfolding convicted
