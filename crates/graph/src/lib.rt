@@ -96,7 +96,7 @@ pub fn judged(f: &[u8]) -> Judgement
     ensures means { λ r. ⌜ Judges (now (f .entry)) (r .answer) ⌝ }
     ensures within { λ r. ⌜ Within (r .shape) ⌝ }
 {
-    let t = tables::read(f);
+    let t = graph_trailer::read(f);
     let a = judge(f, t);
     let x = shape(a, t);
     Judgement {

@@ -26,7 +26,7 @@ fn most(i: u16) -> u16
 pub fn count_bad(f: &[u8], i: u16) -> bool
     ensures { λ r. ⌜ r ≡ countBad (now (f .entry)) i ⌝ }
 {
-    let n = tables::trailer_word(f, i);
+    let n = graph_trailer::trailer_word(f, i);
     (n < fewest(i)) | (most(i) < n)
 }
 
@@ -34,7 +34,7 @@ pub fn length_bad(f: &[u8], t: Tables) -> bool
     ensures { λ r. ⌜ r ≡ lengthBad (now (f .entry)) t ⌝ }
 {
     let sum = t.end as usize;
-    let distance = tables::trailer_word(f, 6) as usize;
+    let distance = graph_trailer::trailer_word(f, 6) as usize;
     (distance != sum) | (f.len() != distance + 14)
 }
 

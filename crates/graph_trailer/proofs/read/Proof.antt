@@ -1,7 +1,7 @@
 use Rattle.tables.specs.Trailer.{tablesOf}
 use borrow.Author.Needs.{needs}
-use Rattle.tables.proofs.read.Statement.{statement}
-use Rattle.tables.proofs.read.Tie as tie
+use Rattle.graph_trailer.proofs.read.Statement.{statement}
+use Rattle.graph_trailer.proofs.read.Tie as tie
 
 returns : tie.Need-returns
 unfolding tablesOf

@@ -1,7 +1,7 @@
 use Rattle.tables.specs.Trailer.{trailerAt}
 use borrow.Author.Needs.{needs}
-use Rattle.tables.proofs.trailer_at.Statement.{statement}
-use Rattle.tables.proofs.trailer_at.Tie as tie
+use Rattle.graph_trailer.proofs.trailer_at.Statement.{statement}
+use Rattle.graph_trailer.proofs.trailer_at.Tie as tie
 
 returns : tie.Need-returns
 unfolding trailerAt

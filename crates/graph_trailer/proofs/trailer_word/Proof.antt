@@ -1,9 +1,9 @@
 use Rattle.tables.specs.Trailer.{trailer}
 use Rattle.tables.proofs.Counts.{trailer-past}
 use mathlib.Core.Path.{sym}
 use borrow.Author.Needs.{needs}
-use Rattle.tables.proofs.trailer_word.Statement.{statement}
-use Rattle.tables.proofs.trailer_word.Tie as tie
+use Rattle.graph_trailer.proofs.trailer_word.Statement.{statement}
+use Rattle.graph_trailer.proofs.trailer_word.Tie as tie
 
 returns : tie.Need-returns
 unfolding trailer
