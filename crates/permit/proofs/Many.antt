@@ -29,7 +29,8 @@ use Rattle.rules.specs.Sheet.{shape}
 use Rattle.permit.specs.Check.{judgedSheet, checkOf}
 use Rattle.permit.specs.Meaning as one
 use Rattle.permit.specs.Meaning.{Checks}
-use Rattle.permit.specs.Many.{Counts, sheetAt, Tells, Told, ChecksMany, refused, miscounted, checked, SafeRow}
+use Rattle.accept_row.specs.Counts.{Counts}
+use Rattle.permit.specs.Many.{sheetAt, Tells, Told, ChecksMany, refused, miscounted, checked, SafeRow}
 use Rattle.permit.proofs.Meaning.{checks, safe}
 
 -- the sheet after the first i of k ends where they do, or before

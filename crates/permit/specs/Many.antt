@@ -1,5 +1,5 @@
 -- What the check of many sheets answers, and what it leaves in the lent row.
-use Prim.Native.Nat.{ℕ, _+_, _*_, _≤_, _<_}
+use Prim.Native.Nat.{ℕ, _+_, _*_, _<_}
 use mathlib.Core.Path.{_≡_}
 use mathlib.Core.List.{List}
 use lib.ListN.{length, getD, take, drop}
@@ -10,14 +10,8 @@ use Rattle.graph.specs.Judge.{judgeOf}
 use Rattle.nodes.specs.Program.{Overdrawing}
 use Rattle.layout.specs.Layout.{sheetBytes}
 use Rattle.rules.specs.Sheet.{shape}
+use Rattle.accept_row.specs.Counts.{Counts}
 use Rattle.permit.specs.Check.{checkOf}
-
--- so many bytes are k whole sheets of this size, "1 to 20", and so many numbers are "two numbers a sheet"
-pub record Counts (size bytes numbers k : ℕ) : Type 0 where
-  pub some : 1 ≤ k
-  pub few : k ≤ 20
-  pub whole : bytes ≡ k * size
-  pub two : numbers ≡ 2 * k
 
 -- sheet i of those that stand "end to end"
 abbrev pub sheetAt : List ℕ → List ℕ → ℕ → List ℕ

@@ -3,19 +3,18 @@ use answer::Answer;
 use layout::Shape;
 use tables::Tables;
 ghost use mathlib.Core.Path.{_≡_};
-ghost use Prim.Native.Nat.{ℕ, _+_, _*_, _≤_, _<_};
-ghost use lib.ListN.{length, set};
+ghost use lib.ListN.{length};
 ghost use Rattle.answer.specs.declared.Answer.the-variants.{Pass};
-ghost use Rattle.answer.specs.Number.{numberOf, placeOf};
 ghost use Rattle.tables.specs.Trailer.{tablesOf};
 ghost use Rattle.graph.specs.Judge.{judgeOf};
 ghost use Rattle.rows.specs.Rows.{Sorted};
 ghost use Rattle.nodes.specs.Program.{Safe};
 ghost use Rattle.layout.specs.Layout.{Within, sheetBytes};
 ghost use Rattle.rules.specs.Sheet.{shape};
+ghost use Rattle.accept_row.specs.Counts.{Counts};
 ghost use Rattle.permit.specs.Check.{judgedSheet, wholeSheet, checkOf};
 ghost use Rattle.permit.specs.Meaning.{Checks};
-ghost use Rattle.permit.specs.Many.{Counts, Told, ChecksMany, SafeRow};
+ghost use Rattle.permit.specs.Many.{Told, ChecksMany, SafeRow};
 
 // The rules and the draws, of a sheet with no ill-formed block.
 fn of_whole(f: &[u8], t: Tables, x: Shape, s: &[u8]) -> Answer
@@ -60,36 +59,6 @@ pub fn check(f: &[u8], s: &[u8]) -> Answer
     a
 }
 
-// How many sheets so many bytes are, where the row has two numbers for each; 0 where they are not 1 to 20 whole ones.
-fn count_of(x: Shape, bytes: usize, numbers: usize) -> usize
-    requires { ⌜ Within x ⌝ }
-    ensures some { λ r. ⌜ (0 < r → Counts (sheetBytes x) bytes numbers r) ⌝ }
-    ensures none { λ r. ⌜ (r ≡ 0 → (k : ℕ) → Counts (sheetBytes x) bytes numbers k → ⊥) ⌝ }
-{
-    let count = numbers / 2;
-    if 20 < count {
-        return 0;
-    }
-    if numbers != 2 * count {
-        return 0;
-    }
-    if bytes != count * layout::sheet_bytes(x) {
-        return 0;
-    }
-    count
-}
-
-// What was answered for sheet i is put into the row: its number, and behind it its place.
-fn put_answer(row: &mut [u32], i: usize, a: Answer)
-    requires { ⌜ 2 * i + 2 ≤ length (now row) ⌝ }
-    ensures { λ _. ⌜ now (row .exit) ≡ set (set (now (row .entry)) (2 * i) (numberOf a)) (2 * i + 1) (placeOf a) ⌝ }
-{
-    let number = 2 * i;
-    let place = number + 1;
-    row[number] = answer::number(a) as u32;
-    row[place] = answer::place(a);
-}
-
 // The sheets of a file that passes are checked in turn.
 fn fill_row(f: &[u8], t: Tables, x: Shape, sheets: &[u8], count: usize, row: &mut [u32])
     requires { ⌜ (judgeOf (now f) ≡ Pass) × (t ≡ tablesOf (now f)) × (x ≡ shape (now f)) × Counts (sheetBytes x) (length (now sheets)) (length (now row)) count ⌝ }
@@ -101,7 +70,7 @@ fn fill_row(f: &[u8], t: Tables, x: Shape, sheets: &[u8], count: usize, row: &mu
         let start = i * size;
         let end = start + size;
         let a = of_judged(f, t, x, &sheets[start..end]);
-        put_answer(row, i, a);
+        accept_row::put_answer(row, i, a);
         i += 1;
     }
 }
@@ -111,7 +80,7 @@ fn many_of_passed(f: &[u8], t: Tables, x: Shape, sheets: &[u8], row: &mut [u32])
     requires { ⌜ (judgeOf (now f) ≡ Pass) × (t ≡ tablesOf (now f)) × (x ≡ shape (now f)) ⌝ }
     ensures { λ r. ⌜ ChecksMany (now (f .entry)) (now (sheets .entry)) (now (row .entry)) (now (row .exit)) r ⌝ }
 {
-    let count = count_of(x, sheets.len(), row.len());
+    let count = accept_row::count_of(x, sheets.len(), row.len());
     if count == 0 {
         return Answer::BadRow;
     }

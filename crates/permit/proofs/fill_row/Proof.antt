@@ -4,7 +4,8 @@ use native.Mathlib.Omega.{arith}
 use denote.Ref.{now}
 use lib.ListN.{length}
 use borrow.Author.Needs.{needs}
-use Rattle.permit.specs.Many.{Counts, Told}
+use Rattle.accept_row.specs.Counts.{Counts}
+use Rattle.permit.specs.Many.{Told}
 use Rattle.permit.proofs.Many.{sheet-within, relies, as-alone, told-none, told-more}
 use Rattle.permit.proofs.fill_row.Statement.{statement}
 use Rattle.permit.proofs.fill_row.Tie as tie

@@ -2,8 +2,8 @@ use Prim.Native.Nat.{_+_, _*_}
 use lib.ListN.{set, length-set}
 use denote.Ref.{now}
 use borrow.Author.Needs.{needs}
-use Rattle.permit.proofs.put_answer.Statement.{statement}
-use Rattle.permit.proofs.put_answer.Tie as tie
+use Rattle.accept_row.proofs.put_answer.Statement.{statement}
+use Rattle.accept_row.proofs.put_answer.Tie as tie
 
 slice-write-row-2 : tie.Need-slice-write-row-2
 slice-write-row-2 c = simp length-set (search needs)

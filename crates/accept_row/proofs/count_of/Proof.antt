@@ -5,8 +5,8 @@ use native.Mathlib.Omega.{arith}
 use borrow.Author.Needs.{needs}
 use Rattle.layout.specs.Layout.{sheetBytes}
 use Rattle.layout.proofs.Bounds.{sheet-le}
-use Rattle.permit.proofs.count_of.Statement.{statement}
-use Rattle.permit.proofs.count_of.Tie as tie
+use Rattle.accept_row.proofs.count_of.Statement.{statement}
+use Rattle.accept_row.proofs.count_of.Tie as tie
 
 mul-if3 : tie.Need-mul-if3
 unfolding sheetBytes
