@@ -12,7 +12,7 @@ use borrow.Author.Tests.{ltb-true, ltb-false, lt-ltb}
 use Rattle.words.specs.Lowest.{lowest}
 use Rattle.words.proofs.Lowest.{is-lowest, none-found}
 use Rattle.answer.specs.declared.Answer.{Answer}
-use Rattle.answer.specs.declared.Answer.the-variants.{Pass, TooShort, BadCount, BadLength, BadEntry, BadNode, BadFlow, BadCall, BadCatch, BadOpening, BadSheet, BadBlock, Broken, Overdrawn, Unfit, BadParent, NoCallRow, BadRow, OutputShort}
+use Rattle.answer.specs.declared.Answer.the-variants.{Pass, TooShort, BadCount, BadLength, BadEntry, BadNode, BadFlow, BadCall, BadCatch, BadOpening, BadParent, NoCallRow}
 use Rattle.answer.specs.Number.{placeOf}
 use Rattle.answer.proofs.Settled.{says-only, says}
 use Rattle.tables.specs.declared.Tables.{Tables}
@@ -21,7 +21,7 @@ use Rattle.refuse.specs.Bad.{countBad, lengthBad, entryBad, nodeBad, flowBad, c
 use Rattle.graph_places.specs.Places.{badNodeAt, noCallRowAt}
 use Rattle.graph_scan.specs.Scan.{refused}
 use Rattle.graph.specs.Judge.{judgeRows, judgeIn, judgeOf}
-use Rattle.graph.specs.Meaning.{Given, turnOf, Before, Judges, refuses, passes}
+use Rattle.graph.specs.Meaning.{Given, too-short, bad-count, bad-length, bad-entry, bad-node, bad-flow, bad-call, bad-parent, bad-catch, no-call-row, bad-opening, turnOf, Before, Judges, refuses, passes}
 
 module _ (f : List ℕ) where
   abbrev t : Tables
@@ -30,64 +30,50 @@ module _ (f : List ℕ) where
   -- the refusal of the file that has the turn and the place
   abbrev inTurn : ℕ → ℕ → Answer
   inTurn c p =
-      cond (eqb c 1) TooShort
-      (cond (eqb c 2) (BadCount p)
-      (cond (eqb c 3) BadLength
-      (cond (eqb c 4) (BadEntry p)
-      (cond (eqb c 5) (badNodeAt f t p)
-      (cond (eqb c 6) (BadFlow p)
-      (cond (eqb c 7) (BadCall p)
-      (cond (eqb c 8) (BadParent p)
-      (cond (eqb c 9) (BadCatch p)
-      (cond (eqb c 10) (noCallRowAt f t p)
+      cond (eqb c 0) TooShort
+      (cond (eqb c 1) (BadCount p)
+      (cond (eqb c 2) BadLength
+      (cond (eqb c 3) (BadEntry p)
+      (cond (eqb c 4) (badNodeAt f t p)
+      (cond (eqb c 5) (BadFlow p)
+      (cond (eqb c 6) (BadCall p)
+      (cond (eqb c 7) (BadParent p)
+      (cond (eqb c 8) (BadCatch p)
+      (cond (eqb c 9) (noCallRowAt f t p)
       (BadOpening p))))))))))
 
   -- what is refused about the file has its turn among eleven
-  about-file : (b : Answer) → Given f t b → (0 < turnOf b) × (turnOf b < 12)
-  about-file Pass g = absurd g
-  about-file TooShort g = (omega arith, omega arith)
-  about-file (BadCount i) g = (omega arith, omega arith)
-  about-file BadLength g = (omega arith, omega arith)
-  about-file (BadEntry k) g = (omega arith, omega arith)
-  about-file (BadNode k l) g = (omega arith, omega arith)
-  about-file (BadFlow k) g = (omega arith, omega arith)
-  about-file (BadCall k) g = (omega arith, omega arith)
-  about-file (BadParent e) g = (omega arith, omega arith)
-  about-file (BadCatch k) g = (omega arith, omega arith)
-  about-file (BadOpening k) g = (omega arith, omega arith)
-  about-file (NoCallRow n l) g = (omega arith, omega arith)
-  about-file BadSheet g = absurd g
-  about-file (BadBlock w) g = absurd g
-  about-file (Broken r k) g = absurd g
-  about-file (Overdrawn n k l) g = absurd g
-  about-file (Unfit n l) g = absurd g
-  about-file BadRow g = absurd g
-  about-file OutputShort g = absurd g
+  about-file : {b : Answer} → Given f t b → turnOf b < 11
+  unfolding lowest
+  about-file (too-short l) = omega arith
+  about-file (bad-count l h) = omega arith
+  about-file (bad-length h) = omega arith
+  about-file (bad-entry l h) = omega arith
+  about-file (bad-node l h e) = omega arith
+  about-file (bad-flow l h) = omega arith
+  about-file (bad-call l h) = omega arith
+  about-file (bad-parent l h) = omega arith
+  about-file (bad-catch l h) = omega arith
+  about-file (no-call-row l h e) = omega arith
+  about-file (bad-opening l h) = omega arith
 
   -- and turn and place settle it
-  found : (b : Answer) → Given f t b → inTurn (turnOf b) (placeOf b) ≡ b
-  found Pass g = absurd g
-  found TooShort g = refl
-  found (BadCount i) g = refl
-  found BadLength g = refl
-  found (BadEntry k) g = refl
-  found (BadNode k l) g = ap (BadNode k) (sym (g .2))
-  found (BadFlow k) g = refl
-  found (BadCall k) g = refl
-  found (BadParent e) g = refl
-  found (BadCatch k) g = refl
-  found (BadOpening k) g = refl
-  found (NoCallRow n l) g = ap (NoCallRow n) (sym (g .2))
-  found BadSheet g = absurd g
-  found (BadBlock w) g = absurd g
-  found (Broken r k) g = absurd g
-  found (Overdrawn n k l) g = absurd g
-  found (Unfit n l) g = absurd g
-  found BadRow g = absurd g
-  found OutputShort g = absurd g
+  found : {b : Answer} → Given f t b → inTurn (turnOf b) (placeOf b) ≡ b
+  unfolding lowest
+  found (too-short l) = refl
+  found (bad-count l h) = refl
+  found (bad-length h) = refl
+  found (bad-entry l h) = refl
+  found (bad-node {k} l h e) = ap (BadNode k) (sym e)
+  found (bad-flow l h) = refl
+  found (bad-call l h) = refl
+  found (bad-parent l h) = refl
+  found (bad-catch l h) = refl
+  found (no-call-row {n} l h e) = ap (NoCallRow n) (sym e)
+  found (bad-opening l h) = refl
 
   settled : (a b : Answer) → Given f t a → Given f t b → turnOf a ≡ turnOf b → placeOf a ≡ placeOf b → a ≡ b
-  settled a b g h p q = sym (found a g) ∙ (λ i. inTurn (p i) (q i)) ∙ found b h
+  settled a b g h p q = sym (found g) ∙ (λ i. inTurn (p i) (q i)) ∙ found h
 
   -- no refusal with a turn below c applies
   abbrev NoneTo : ℕ → Type 0
@@ -100,7 +86,7 @@ module _ (f : List ℕ) where
   module _ (c : ℕ) (answer : ℕ → Answer) (own : (k : ℕ) → inTurn c k ≡ answer k) (none : NoneTo c) where
     -- an answer with the turn c is the one for its place
     at-place : (b : Answer) → turnOf b ≡ c → Given f t b → Given f t (answer (placeOf b))
-    at-place b e g = subst (Given f t) (sym (found b g) ∙ (λ i. inTurn (e i) (placeOf b)) ∙ own (placeOf b)) g
+    at-place b e g = subst (Given f t) (sym (found g) ∙ (λ i. inTurn (e i) (placeOf b)) ∙ own (placeOf b)) g
 
     -- where none of them applies either, none up to c does
     none-more : ((k : ℕ) → Given f t (answer k) → ⊥) → NoneTo (suc c)
@@ -139,20 +125,53 @@ module _ (f : List ℕ) where
 
   -- The judge's answer is the first that applies.
   pub judges : Judges f (judgeOf f)
-  unfolding judgeIn judgeRows
+  unfolding judgeIn judgeRows lowest
   judges =
-      file-judge 1 (λ k. TooShort) (λ k. refl) (λ b l g. omega (arith, about-file b g .0)) _ _ (refl, refl) (ltb-true (length f) 14) (λ k g. lt-ltb (length f) 14 g)
-      (λ n1. rows-judge 2 BadCount (λ k. refl) n1 _ _ _ (λ k. (refl, refl)) (λ k l h. (l, h)) (λ k g. g)
-      (λ n2. file-judge 3 (λ k. BadLength) (λ k. refl) n2 _ _ (refl, refl) (λ h. h) (λ k g. g)
-      (λ n3. rows-judge 4 BadEntry (λ k. refl) n3 _ _ _ (λ k. (refl, refl)) (λ k l h. (l, h)) (λ k g. g)
-      (λ n4. rows-judge 5 (badNodeAt f t) (λ k. refl) n4 _ _ _ (λ k. (refl, refl)) (λ k l h. (l, h, refl)) (λ k g. (g .0, g .1))
-      (λ n5. rows-judge 6 BadFlow (λ k. refl) n5 _ _ _ (λ k. (refl, refl)) (λ k l h. (l, h)) (λ k g. g)
-      (λ n6. rows-judge 7 BadCall (λ k. refl) n6 _ _ _ (λ k. (refl, refl)) (λ k l h. (l, h)) (λ k g. g)
-      (λ n7. rows-judge 8 BadParent (λ k. refl) n7 _ _ _ (λ k. (refl, refl)) (λ k l h. (l, h)) (λ k g. g)
-      (λ n8. rows-judge 9 BadCatch (λ k. refl) n8 _ _ _ (λ k. (refl, refl)) (λ k l h. (l, h)) (λ k g. g)
-      (λ n9. rows-judge 10 (noCallRowAt f t) (λ k. refl) n9 _ _ _ (λ k. (refl, refl)) (λ k l h. (l, h, refl)) (λ k g. (g .0, g .1))
-      (λ n10. rows-judge 11 BadOpening (λ k. refl) n10 _ _ _ (λ k. (refl, refl)) (λ k l h. (l, h)) (λ k g. g)
-      (λ n11. passes (λ b g. n11 b (about-file b g .1) g) (says Pass))))))))))))
+      file-judge 0 (λ k. TooShort) (λ k. refl) (λ b l g. omega arith) _ _ (refl, refl) (λ h. too-short (ltb-true (length f) 14 h)) (λ k g. short g)
+      (λ n1. rows-judge 1 BadCount (λ k. refl) n1 _ _ _ (λ k. (refl, refl)) (λ k l h. bad-count l h) (λ k g. count g)
+      (λ n2. file-judge 2 (λ k. BadLength) (λ k. refl) n2 _ _ (refl, refl) (λ h. bad-length h) (λ k g. long g)
+      (λ n3. rows-judge 3 BadEntry (λ k. refl) n3 _ _ _ (λ k. (refl, refl)) (λ k l h. bad-entry l h) (λ k g. entry g)
+      (λ n4. rows-judge 4 (badNodeAt f t) (λ k. refl) n4 _ _ _ (λ k. (refl, refl)) (λ k l h. bad-node l h refl) (λ k g. node g)
+      (λ n5. rows-judge 5 BadFlow (λ k. refl) n5 _ _ _ (λ k. (refl, refl)) (λ k l h. bad-flow l h) (λ k g. flow g)
+      (λ n6. rows-judge 6 BadCall (λ k. refl) n6 _ _ _ (λ k. (refl, refl)) (λ k l h. bad-call l h) (λ k g. call g)
+      (λ n7. rows-judge 7 BadParent (λ k. refl) n7 _ _ _ (λ k. (refl, refl)) (λ k l h. bad-parent l h) (λ k g. parent g)
+      (λ n8. rows-judge 8 BadCatch (λ k. refl) n8 _ _ _ (λ k. (refl, refl)) (λ k l h. bad-catch l h) (λ k g. catch g)
+      (λ n9. rows-judge 9 (noCallRowAt f t) (λ k. refl) n9 _ _ _ (λ k. (refl, refl)) (λ k l h. no-call-row l h refl) (λ k g. lost g)
+      (λ n10. rows-judge 10 BadOpening (λ k. refl) n10 _ _ _ (λ k. (refl, refl)) (λ k l h. bad-opening l h) (λ k g. opening g)
+      (λ n11. passes (λ b g. n11 b (about-file g) g) (says Pass))))))))))))
+    where
+      short : Given f t TooShort → ltb (length f) 14 ≡ true
+      short (too-short l) = lt-ltb (length f) 14 l
+
+      count : {i : ℕ} → Given f t (BadCount i) → (i < 6) × (countBad f i ≡ true)
+      count (bad-count l h) = (l, h)
+
+      long : Given f t BadLength → lengthBad f t ≡ true
+      long (bad-length h) = h
+
+      entry : {k : ℕ} → Given f t (BadEntry k) → (k < t .methods) × (entryBad f t k ≡ true)
+      entry (bad-entry l h) = (l, h)
+
+      node : {k l : ℕ} → Given f t (BadNode k l) → (k < t .nodes) × (nodeBad f t k ≡ true)
+      node (bad-node l h e) = (l, h)
+
+      flow : {k : ℕ} → Given f t (BadFlow k) → (k < t .flows) × (flowBad f t k ≡ true)
+      flow (bad-flow l h) = (l, h)
+
+      call : {k : ℕ} → Given f t (BadCall k) → (k < t .calls) × (callBad f t k ≡ true)
+      call (bad-call l h) = (l, h)
+
+      parent : {e : ℕ} → Given f t (BadParent e) → (e < 8) × (parentBad f t e ≡ true)
+      parent (bad-parent l h) = (l, h)
+
+      catch : {k : ℕ} → Given f t (BadCatch k) → (k < t .catches) × (catchBad f t k ≡ true)
+      catch (bad-catch l h) = (l, h)
+
+      lost : {n l : ℕ} → Given f t (NoCallRow n l) → (n < t .nodes) × (uncalled f t n ≡ true)
+      lost (no-call-row l h e) = (l, h)
+
+      opening : {k : ℕ} → Given f t (BadOpening k) → (k < t .types) × (openingBad f t k ≡ true)
+      opening (bad-opening l h) = (l, h)
 
   -- Two answers of which that can be said are one.
   same : {a b : Answer} → Judges f a → Judges f b → a ≡ b
