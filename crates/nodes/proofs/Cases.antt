@@ -3,7 +3,7 @@ use Prim.Native.Nat.{ℕ, _<_, _≤_}
 use mathlib.Core.Path.{_≡_, refl, sym, ap, _∙_}
 use mathlib.Core.Bool.{Bool, true, false}
 use mathlib.Core.List.{List}
-use lib.Dec.{eqb}
+use lib.Dec.{eqb, leb}
 use borrow.Author.Tests.{lt-ltb, le-ltb, le-leb, lt-leb, eq-eqb, ne-eqb}
 use Rattle.effect.specs.declared.Effect.{Effect}
 use Rattle.single.specs.declared.One.{One}
@@ -15,7 +15,8 @@ use Rattle.model.specs.Stocks.{Does, plain, grant, draw, stepOf}
 use Rattle.tables.specs.declared.Tables.{Tables}
 use Rattle.tables.specs.Kinds.{grantKind, drawKind}
 use Rattle.tables.specs.Fields.{nodeKind, nodeNumber, nodeCount, nodeRights}
-use Rattle.nodes.specs.Nodes.{doesIn, forType}
+use Rattle.nodes.specs.Nodes.{doesIf, doesIn, forType}
+use Rattle.nodes.specs.Own.{ownOf}
 
 module _ (f : List ℕ) (t : Tables) (n : ℕ) where
   pub does-outside : t .nodes ≤ n → doesIn f t n ≡ plain
@@ -49,23 +50,42 @@ module _ (r : Effect) {d : Does} where
   unfolding stepOf
   step-draw e q a = q ∙ ap drawOf a ∙ ap stepOf (sym e)
 
--- and of the type j, which the step is of
+-- and of its own type
+module _ (r : One) {d : Does} where
+  pub own-plain : d ≡ plain → r ≡ idle → r ≡ ownOf d
+  unfolding ownOf
+  own-plain e q = q ∙ ap ownOf (sym e)
+
+  pub own-grant : {t p m p′ m′ : ℕ} → d ≡ grant t p m → r ≡ granted p′ m′ → p′ ≡ p → m′ ≡ m → r ≡ ownOf d
+  unfolding ownOf
+  own-grant e q b c = q ∙ (λ i. granted (b i) (c i)) ∙ ap ownOf (sym e)
+
+  pub own-draw : {t p : ℕ} → d ≡ draw t p → r ≡ drawn → r ≡ ownOf d
+  unfolding ownOf
+  own-draw e q = q ∙ ap ownOf (sym e)
+
+-- the step is that of its own type, and nothing is done to another
 if-idle : (b : Bool) → idle ≡ oneIf b idle
 if-idle true = refl
 if-idle false = refl
 
-module _ (r : One) {d : Does} (j : ℕ) where
-  pub own-plain : d ≡ plain → r ≡ idle → stepOf d ≡ effectOf (λ k. oneIf (eqb k j) r)
-  unfolding stepOf nothingDone
-  own-plain e q = ap stepOf e ∙ (λ i. effectOf (λ k. if-idle (eqb k j) i)) ∙ (λ i. effectOf (λ k. oneIf (eqb k j) (sym q i)))
+module _ (j p m : ℕ) where
+  abbrev one-of : Bool → Bool → Bool → Does
+  one-of a b c = doesIf a plain (doesIf b (grant j p m) (doesIf c (draw j p) plain))
 
-  pub own-grant : {p m p′ m′ : ℕ} → d ≡ grant j p m → r ≡ granted p′ m′ → p′ ≡ p → m′ ≡ m → stepOf d ≡ effectOf (λ k. oneIf (eqb k j) r)
-  unfolding stepOf grantOf
-  own-grant e q b c = ap stepOf e ∙ (λ i. effectOf (λ k. oneIf (eqb k j) (sym (q ∙ (λ l. granted (b l) (c l))) i)))
+  of-own : (a b c : Bool) → stepOf (one-of a b c) ≡ effectOf (λ k. oneIf (eqb k j) (ownOf (one-of a b c)))
+  unfolding stepOf ownOf nothingDone grantOf drawOf
+  of-own true b c = λ i. effectOf (λ k. if-idle (eqb k j) i)
+  of-own false true c = refl
+  of-own false false true = refl
+  of-own false false false = λ i. effectOf (λ k. if-idle (eqb k j) i)
 
-  pub own-draw : {p : ℕ} → d ≡ draw j p → r ≡ drawn → stepOf d ≡ effectOf (λ k. oneIf (eqb k j) r)
-  unfolding stepOf drawOf
-  own-draw e q = ap stepOf e ∙ (λ i. effectOf (λ k. oneIf (eqb k j) (sym q i)))
+pub own-step-means : (f : List ℕ) (t : Tables) (n : ℕ) {r : One} → r ≡ ownOf (doesIn f t n)
+    → stepOf (doesIn f t n) ≡ effectOf (λ k. oneIf (eqb k (nodeNumber f t n)) r)
+unfolding doesIn
+own-step-means f t n q =
+    of-own (nodeNumber f t n) (nodeRights f t n) (nodeCount f t n) (leb (t .nodes) n) (eqb (nodeKind f t n) grantKind) (eqb (nodeKind f t n) drawKind)
+    ∙ (λ i. effectOf (λ k. oneIf (eqb k (nodeNumber f t n)) (sym q i)))
 
 -- what the opening stock has of a type
 module _ (t : Tables) (row : ℕ → ℕ) (k : ℕ) where

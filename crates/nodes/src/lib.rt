@@ -4,12 +4,10 @@ use effect::Stock;
 use single::One;
 use tables::Tables;
 ghost use mathlib.Core.Path.{_≡_};
-ghost use lib.Dec.{eqb};
-ghost use Rattle.effect.specs.Six.{effectOf};
-ghost use Rattle.effect.specs.Whole.{oneIf};
-ghost use Rattle.tables.specs.Fields.{nodeNumber, openingRights, openingCount};
+ghost use Rattle.tables.specs.Fields.{openingRights, openingCount};
 ghost use Rattle.model.specs.Stocks.{stepOf};
 ghost use Rattle.nodes.specs.Nodes.{doesIn, forType, openingIn};
+ghost use Rattle.nodes.specs.Own.{ownOf};
 
 // The effect of node n's own step.
 pub fn step(f: &[u8], t: Tables, n: u16) -> Effect
@@ -31,9 +29,9 @@ pub fn step(f: &[u8], t: Tables, n: u16) -> Effect
     effect::nothing_done()
 }
 
-// The same of the node's own type, its number: nothing is done to another.
+// The same of the node's own type, its number: nothing is done to another (`own-step-means` in proofs/Cases.antt).
 pub fn own_step(f: &[u8], t: Tables, n: u16) -> One
-    ensures { λ r. ⌜ stepOf (doesIn (now (f .entry)) t n) ≡ effectOf (λ k. oneIf (eqb k (nodeNumber (now (f .entry)) t n)) r) ⌝ }
+    ensures { λ r. ⌜ r ≡ ownOf (doesIn (now (f .entry)) t n) ⌝ }
 {
     if t.nodes <= n {
         return single::nothing_done();

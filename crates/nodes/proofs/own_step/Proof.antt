@@ -2,7 +2,6 @@ use mathlib.Core.Path.{sym, _∙_}
 use denote.Ref.{now}
 use borrow.Author.Tests.{eqb-true, eqb-false}
 use borrow.Author.Needs.{needs}
-use Rattle.tables.specs.Fields.{nodeNumber}
 use Rattle.nodes.proofs.Cases.{does-outside, does-grant, does-draw, does-plain, own-plain, own-grant, own-draw}
 use Rattle.nodes.proofs.own_step.Statement.{statement}
 use Rattle.nodes.proofs.own_step.Tie as tie
@@ -10,7 +9,7 @@ use Rattle.nodes.proofs.own_step.Tie as tie
 returns : tie.Need-returns
 returns c =
     let a = c .before .before .before .before .args in
-    own-plain (c .nothing-done .result) (nodeNumber (now (a .f)) (a .t) (a .n)) (does-outside (now (a .f)) (a .t) (a .n) (c .before .if1 .taken)) (c .nothing-done .ensures)
+    own-plain (c .nothing-done .result) (does-outside (now (a .f)) (a .t) (a .n) (c .before .if1 .taken)) (c .nothing-done .ensures)
 
 returns-2 : tie.Need-returns-2
 returns-2 c =
@@ -19,7 +18,7 @@ returns-2 c =
     let kind = rights .before .before in
     let inside = kind .before in
     let a = inside .before .before .before .args in
-    own-grant (c .grant .result) (nodeNumber (now (a .f)) (a .t) (a .n))
+    own-grant (c .grant .result)
     (does-grant (now (a .f)) (a .t) (a .n) (inside .if1 .left) (sym (kind .node-kind .ensures .0) ∙ rights .before .if2 .taken))
     (c .grant .ensures) (rights .node-rights .ensures) (count .node-count .ensures .0)
 
@@ -28,7 +27,7 @@ returns-3 c =
     let kind = c .before .before .before in
     let inside = kind .before in
     let a = inside .before .before .before .args in
-    own-draw (c .draw .result) (nodeNumber (now (a .f)) (a .t) (a .n))
+    own-draw (c .draw .result)
     (does-draw (now (a .f)) (a .t) (a .n) (inside .if1 .left) (sym (kind .node-kind .ensures .0) ∙ eqb-true _ _ (c .before .if3 .taken)))
     (c .draw .ensures)
 
@@ -38,7 +37,7 @@ returns-4 c =
     let kind = other .before .before in
     let inside = kind .before in
     let a = inside .before .before .before .args in
-    own-plain (c .nothing-done2 .result) (nodeNumber (now (a .f)) (a .t) (a .n))
+    own-plain (c .nothing-done2 .result)
     (does-plain (now (a .f)) (a .t) (a .n) (inside .if1 .left)
     (λ e. other .before .if2 .left (kind .node-kind .ensures .0 ∙ e))
     (λ e. eqb-false _ _ (other .if3 .left) (kind .node-kind .ensures .0 ∙ e)))
