@@ -76,7 +76,7 @@ pub fn stepped_fails(f: &[u8], t: Tables, x: Shape, s: &[u8], n: u16, v: usize) 
     let blocks = sheet::lies_in(s, x.types, v, 4) & sheet::lies_in(s, x.types, w, 4);
     if blocks & (own < x.types) {
         let step = nodes::own_step(f, t, n);
-        return sheet::stepped_fails(s, x.types, v, w, own as usize, step);
+        return sheet_compare::stepped_fails(s, x.types, v, w, own as usize, step);
     }
     effect_order::fails(sheet::effect(s, x.types, v), stepped(f, t, x, s, n))
 }

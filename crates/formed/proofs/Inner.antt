@@ -20,7 +20,7 @@ use Rattle.effect.proofs.Six.{all-i, all-e}
 use Rattle.effect.proofs.Laws.{nothing-normal, normal-at}
 use Rattle.sheet.specs.Read.{sheetWord, effectAt}
 use Rattle.sheet.specs.Inner.{oneWords}
-use Rattle.sheet.proofs.Compare.{one-read, idle-read}
+use Rattle.sheet.proofs.Types.{one-read, idle-read}
 use Rattle.formed.specs.Ill.{notZero, someWord}
 use Rattle.formed.proofs.Scan.{zero-there}
 use Rattle.formed.proofs.Judged.{AllZero, all-zero}

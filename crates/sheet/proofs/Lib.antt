@@ -1,6 +1,6 @@
 pub mod Fill
 pub mod Same
 pub mod Back
-pub mod Compare
+pub mod Types
 pub mod Marked
 pub mod Potential

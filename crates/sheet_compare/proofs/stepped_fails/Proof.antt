@@ -2,10 +2,10 @@ use Prim.Native.Nat.{ℕ, _≤_, _<_, _-_}
 use mathlib.Core.Path.{_≡_}
 use mathlib.Core.Bool.{true}
 use borrow.Author.Count.{below-none}
-use Rattle.sheet.proofs.Compare.{underAt, step-more, step-found, step-none}
+use Rattle.sheet_compare.proofs.Compare.{underAt, step-more, step-found, step-none}
 use borrow.Author.Needs.{needs}
-use Rattle.sheet.proofs.stepped_fails.Statement.{statement}
-use Rattle.sheet.proofs.stepped_fails.Tie as tie
+use Rattle.sheet_compare.proofs.stepped_fails.Statement.{statement}
+use Rattle.sheet_compare.proofs.stepped_fails.Tie as tie
 
 abbrev Inv-loop : tie.InvT-loop
 Inv-loop s t v w n y k₀ k = (k ≤ t) × ((j : ℕ) → j < k → underAt s v w n y j ≡ true)

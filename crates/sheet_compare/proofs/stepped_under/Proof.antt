@@ -2,11 +2,11 @@ use mathlib.Core.Path.{sym, ap, _∙_}
 use borrow.Author.Tests.{eq-eqb, ne-eqb}
 use Rattle.single.specs.Formulas.{thenOne, atMostOne}
 use Rattle.effect.specs.Whole.{oneIf}
 use Rattle.sheet.specs.Inner.{oneWords}
-use Rattle.sheet.proofs.Compare.{word-small, idle-under}
+use Rattle.sheet_compare.proofs.Compare.{word-small, idle-under}
 use borrow.Author.Needs.{needs}
-use Rattle.sheet.proofs.stepped_under.Statement.{statement}
-use Rattle.sheet.proofs.stepped_under.Tie as tie
+use Rattle.sheet_compare.proofs.stepped_under.Statement.{statement}
+use Rattle.sheet_compare.proofs.stepped_under.Tie as tie
 
 returns : tie.Need-returns
 returns c =

@@ -1,9 +1,9 @@
 use mathlib.Core.Path.{sym, _∙_}
 use Rattle.single.specs.Formulas.{atMostOne}
-use Rattle.sheet.proofs.Compare.{same-under}
+use Rattle.sheet_compare.proofs.Compare.{same-under}
 use borrow.Author.Needs.{needs}
-use Rattle.sheet.proofs.one_under.Statement.{statement}
-use Rattle.sheet.proofs.one_under.Tie as tie
+use Rattle.sheet_compare.proofs.one_under.Statement.{statement}
+use Rattle.sheet_compare.proofs.one_under.Tie as tie
 
 returns : tie.Need-returns
 returns c =

@@ -1,13 +1,12 @@
 -- Two blocks compared type by type on their words.
 use Prim.Native.Nat.{ℕ, _+_, _*_, _≤_, _<_}
 use mathlib.Core.Path.{_≡_, refl, sym, ap, subst, _∙_}
-use mathlib.Core.Bool.{Bool, true, false, cond, not}
+use mathlib.Core.Bool.{Bool, true, false, not}
 use mathlib.Core.List.{List}
-use lib.Dec.{ltb, eqb}
-use lib.ListN.{getD}
+use lib.Dec.{eqb}
 use lib.Bits.{bitOr, and-le-r}
 use borrow.Author.Count.{below-more}
-use borrow.Author.Tests.{lt-ltb, ne-eqb, not-false}
+use borrow.Author.Tests.{ne-eqb, not-false}
 use native.Mathlib.Decide.{decLt}
 use native.Mathlib.Omega.{arith}
 use Rattle.words.specs.Bytes.{wordAt}
@@ -20,17 +19,16 @@ use Rattle.single.specs.declared.One.{One}
 use Rattle.single.specs.Single.{idle, applyOne}
 use Rattle.single.specs.Formulas.{thenOne, atMostOne}
 use Rattle.effect.specs.declared.Effect.{Effect}
-use Rattle.effect.specs.Six.{six, heldAt, stockOf, oneAt, effectOf}
+use Rattle.effect.specs.Six.{heldAt, stockOf, oneAt, effectOf}
 use Rattle.effect.specs.Whole.{oneIf, nothingDone, applyOf, thenOf, failsOf}
 use Rattle.effect.proofs.Count.{after-top}
 use Rattle.effect.proofs.Six.{stock-at, effect-at}
 use Rattle.effect.proofs.Single.{below-along, one-then, one-sound, one-complete, one-refl}
 use Rattle.effect.proofs.Laws.{Fits, apply-nothing}
-use Rattle.effect.proofs.Fields.{fields-idle}
 use Rattle.number.specs.Number.{rightsAfter}
-use Rattle.sheet.specs.Read.{sheetWord, column, effectAt}
+use Rattle.sheet.specs.Read.{sheetWord, effectAt}
 use Rattle.sheet.specs.Inner.{oneWords}
-use Rattle.sheet.proofs.Back.{six-at, effect-read}
+use Rattle.sheet.proofs.Types.{one-read, idle-read}
 
 -- words that are the same are the same effect
 pub ones-same : (s : List ℕ) (v w k : ℕ) → fourAt s (2 * (v + (1 + 4 * k))) ≡ fourAt s (2 * (w + (1 + 4 * k))) → oneWords s v k ≡ oneWords s w k
@@ -77,21 +75,6 @@ idle-under a x w =
 pub word-small : (s : List ℕ) (w k : ℕ) → oneWords s w k .keepmax < 65536
 unfolding oneWords
 word-small s w k = word-lt s (2 * (w + (2 + 4 * k)))
-
-module _ (s : List ℕ) (t w : ℕ) where
-  -- what is read of a type that the file has,
-  pub one-read : (k : ℕ) → k < t → k < 6 → oneAt (effectAt s t w) k ≡ oneWords s w k
-  unfolding effectAt oneWords
-  one-read k u l = λ i. record { keepin = at 1 0 i; keepmax = at 2 65535 i; cap = at 3 255 i; drop = at 4 0 i }
-    where
-      at : (j none : ℕ) → getD (six (column s t w 4 j none)) k 0 ≡ sheetWord s (w + (j + 4 * k))
-      at j none = six-at (column s t w 4 j none) k l ∙ ap (λ (b : Bool). cond b (sheetWord s (w + (j + 4 * k))) none) (lt-ltb k t u)
-
-  -- and of a further one
-  pub idle-read : (k : ℕ) → t ≤ k → k < 6 → oneAt (effectAt s t w) k ≡ idle
-  idle-read k u l =
-      let f = effect-read s t w in
-      fields-idle (effectAt s t w) k (record { keepin = f .keepin .rest k u l; keepmax = f .keepmax .rest k u l; cap = f .cap .rest k u l; drop = f .drop .rest k u l })
 
 -- the test of type k: the block at v against that at w, then y for the type n
 abbrev pub underAt : List ℕ → ℕ → ℕ → ℕ → One → ℕ → Bool
