@@ -78,7 +78,7 @@ pub fn stepped_fails(f: &[u8], t: Tables, x: Shape, s: &[u8], n: u16, v: usize) 
         let step = nodes::own_step(f, t, n);
         return sheet_compare::stepped_fails(s, x.types, v, w, own as usize, step);
     }
-    effect_order::fails(sheet::effect(s, x.types, v), stepped(f, t, x, s, n))
+    sheet_compare::effect_fails(s, x.types, v, stepped(f, t, x, s, n))
 }
 
 // Rule 3: the block at v has mark 1 and is at most that.

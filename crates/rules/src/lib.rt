@@ -36,7 +36,7 @@ fn effect_key(s: &[u8], x: Shape, rule: u16, w: usize, e: Effect, least: usize) 
     ensures { λ r. ⌜ r ≡ lessened x (now (s .entry)) (of-effect rule w e) least ⌝ }
 {
     if sheet::is_marked(s, w) {
-        let k = effect_order::fails(sheet::effect(s, x.types, w), e);
+        let k = sheet_compare::effect_fails(s, x.types, w, e);
         return words::smaller(least, at_type(rule, k));
     }
     words::smaller(least, 8 * rule as usize + 6)

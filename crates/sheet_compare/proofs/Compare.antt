@@ -76,6 +76,23 @@ pub word-small : (s : List ℕ) (w k : ℕ) → oneWords s w k .keepmax < 65536
 unfolding oneWords
 word-small s w k = word-lt s (2 * (w + (2 + 4 * k)))
 
+-- what a loop over the types finds, with r for the test of type k
+module _ (a b : Effect) where
+  abbrev pub UnderBelow : ℕ → Type 0
+  UnderBelow k = (j : ℕ) → j < k → atMostOne (oneAt a j) (oneAt b j) ≡ true
+
+  module _ (k : ℕ) (before : UnderBelow k) {r : Bool} (test : r ≡ atMostOne (oneAt a k) (oneAt b k)) where
+    pub under-more : not r ≡ false → UnderBelow (k + 1)
+    under-more e = below-more (λ j. atMostOne (oneAt a j) (oneAt b j) ≡ true) k before (sym test ∙ not-false r e)
+
+    pub under-found : k < 6 → not r ≡ true → k ≡ failsOf a b
+    unfolding failsOf
+    under-found u e = sym (lowest-is (λ j. not (atMostOne (oneAt a j) (oneAt b j))) 6 k (λ j l. ap not (before j l)) u (ap not (sym test) ∙ e))
+
+  pub under-none : UnderBelow 6 → 6 ≡ failsOf a b
+  unfolding failsOf
+  under-none before = sym (lowest-none (λ j. not (atMostOne (oneAt a j) (oneAt b j))) 6 (λ j l. ap not (before j l)))
+
 -- the test of type k: the block at v against that at w, then y for the type n
 abbrev pub underAt : List ℕ → ℕ → ℕ → ℕ → One → ℕ → Bool
 underAt s v w n y k = atMostOne (oneWords s v k) (thenOne (oneWords s w k) (oneIf (eqb k n) y))
@@ -105,7 +122,6 @@ module _ (s : List ℕ) (t v w n : ℕ) (y : One) (few : t ≤ 6) (own : n < t) 
       let a = after-at k l ∙ ap (λ (x : One). thenOne x (oneIf (eqb k n) y)) (idle-read s t w k u l) in
       (λ i. atMostOne (idle-read s t v k u l i) (a i)) ∙ idle-idle (oneIf (eqb k n) y) (ap (λ (b : Bool). oneIf b y) (ne-eqb k n (λ e. omega arith)))
 
-  -- what the loop over the types finds, with r for the test of type k
   abbrev Before : ℕ → Type 0
   Before k = (j : ℕ) → j < k → underAt s v w n y j ≡ true
 
@@ -114,16 +130,12 @@ module _ (s : List ℕ) (t v w n : ℕ) (y : One) (few : t ≤ 6) (own : n < t) 
     step-more e = below-more (λ j. underAt s v w n y j ≡ true) k before (sym test ∙ not-false r e)
 
     pub step-found : k < t → not r ≡ true → k ≡ failsOf (effectAt s t v) After
-    unfolding failsOf
-    step-found u e =
-        sym (lowest-is (λ j. not (atMostOne (oneAt (effectAt s t v) j) (oneAt After j))) 6 k
-        (λ j l. ap not (type-had j (omega arith) ∙ before j l)) (omega arith) (ap not (type-had k u ∙ sym test) ∙ e))
+    step-found u e = under-found (effectAt s t v) After k (λ j l. type-had j (omega arith) ∙ before j l) (test ∙ sym (type-had k u)) (omega arith) e
 
   pub step-none : (k : ℕ) → Before k → t ≤ k → 6 ≡ failsOf (effectAt s t v) After
-  unfolding failsOf
   step-none k before u =
-      sym (lowest-none (λ j. not (atMostOne (oneAt (effectAt s t v) j) (oneAt After j))) 6
+      under-none (effectAt s t v) After
       (λ j l. elim (decLt j t) [
-        | yes h ↦ ap not (type-had j h ∙ before j (omega arith))
-        | no h ↦ ap not (type-past j (omega arith) l)
-      ]))
+        | yes h ↦ type-had j h ∙ before j (omega arith)
+        | no h ↦ type-past j (omega arith) l
+      ])

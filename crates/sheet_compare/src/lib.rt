@@ -1,4 +1,5 @@
-// Two blocks of a sheet compared where they stand, type by type.
+// Blocks of a sheet compared where they stand, type by type.
+use effect::Effect;
 use single::One;
 ghost use mathlib.Core.Path.{_≡_};
 ghost use Prim.Native.Nat.{_+_, _*_, _<_, _≤_};
@@ -6,7 +7,7 @@ ghost use lib.ListN.{length};
 ghost use lib.Dec.{eqb};
 ghost use Rattle.layout.specs.Layout.{effectSize};
 ghost use Rattle.single.specs.Formulas.{thenOne, atMostOne};
-ghost use Rattle.effect.specs.Six.{effectOf};
+ghost use Rattle.effect.specs.Six.{oneAt, effectOf};
 ghost use Rattle.effect.specs.Whole.{oneIf, thenOf, failsOf};
 ghost use Rattle.sheet.specs.Read.{effectAt};
 ghost use Rattle.sheet.specs.Inner.{oneWords};
@@ -51,4 +52,40 @@ pub fn stepped_fails(s: &[u8], t: u16, v: usize, w: usize, n: usize, y: One) -> 
         k += 1;
     }
     6
+}
+
+// Type k of the block at v, which lies in the sheet, is at most y.
+fn type_under(s: &[u8], t: u16, v: usize, k: usize, y: One) -> bool
+    requires { ⌜ (k < 6) × (2 * (v + effectSize t) ≤ length (now s)) ⌝ }
+    ensures { λ r. ⌜ r ≡ atMostOne (oneAt (effectAt (now (s .entry)) t v) k) y ⌝ }
+{
+    if k < t as usize {
+        return single::at_most(sheet::inner_one(s, v, k), y);
+    }
+    single::at_most(single::nothing_done(), y)
+}
+
+// The lowest type at which the effect of a block that lies in the sheet is not at most e, or 6.
+fn inner_fails(s: &[u8], t: u16, v: usize, e: Effect) -> usize
+    requires { ⌜ 2 * (v + effectSize t) ≤ length (now s) ⌝ }
+    ensures { λ r. ⌜ r ≡ failsOf (effectAt (now (s .entry)) t v) e ⌝ }
+{
+    let mut k = 0;
+    while k < 6 {
+        if !type_under(s, t, v, k, effect::one_at(e, k)) {
+            return k;
+        }
+        k += 1;
+    }
+    6
+}
+
+// The same of any block.
+pub fn effect_fails(s: &[u8], t: u16, v: usize, e: Effect) -> usize
+    ensures { λ r. ⌜ r ≡ failsOf (effectAt (now (s .entry)) t v) e ⌝ }
+{
+    if sheet::lies_in(s, t, v, 4) {
+        return inner_fails(s, t, v, e);
+    }
+    effect::fails(sheet::effect(s, t, v), e)
 }

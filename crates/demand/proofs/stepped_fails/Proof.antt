@@ -1,4 +1,4 @@
-use mathlib.Core.Path.{sym, _∙_}
+use mathlib.Core.Path.{sym, ap, _∙_}
 use mathlib.Core.Bool.{_&&_}
 use denote.Ref.{now}
 use lib.Dec.{eqb}
@@ -33,7 +33,7 @@ returns c =
     c .stepped-fails .ensures ∙ (λ i. failsOf (effectAt (now (a .s)) (a .x .types) (a .v)) (thenOf (effectAt (now (a .s)) (a .x .types) (at .node-at .ensures i)) (e i)))
 
 returns-2 : tie.Need-returns-2
-returns-2 c = c .fails .ensures .0 ∙ (λ i. failsOf (c .before .before .effect .ensures i) (c .before .stepped .ensures i))
+returns-2 c = c .effect-fails .ensures ∙ ap (failsOf _) (c .before .stepped .ensures)
 
 pub stepped-fails-spec : {M : Type 1} → statement M
 stepped-fails-spec =
@@ -47,7 +47,6 @@ stepped-fails-spec =
     (λ c. search needs)
     stepped-fails-requires
     returns
-    (λ c κs. search needs)
     (λ c κs. search needs)
     (λ c κs. search needs)
     returns-2)

@@ -3,7 +3,7 @@ use mathlib.Core.Path.{_≡_, sym, ap, _∙_}
 use mathlib.Core.Bool.{true, false}
 use denote.Ref.{now}
 use borrow.Author.Needs.{needs}
-use Rattle.effect.specs.Whole.{failsOf}
+use Rattle.effect.proofs.Failing.{fails-lowest}
 use Rattle.sheet.specs.Read.{marked}
 use Rattle.rules.specs.Keys.{keyIf, lessened}
 use Rattle.rules.proofs.effect_key.Statement.{statement}
@@ -14,13 +14,10 @@ unfolding lessened
 returns c =
     let key = c .before in
     let fails = key .before in
-    let at = fails .before in
-    let mark = at .before .before in
+    let mark = fails .before .before in
     let a = mark .before .before .args in
-    let m : marked (now (a .s)) (a .w) ≡ true = sym (mark .is-marked .ensures) ∙ at .before .if1 .taken in
-    c .smaller .ensures
-    ∙ ap (min (a .least)) (key .at-type .ensures ∙ ap (keyIf true (a .rule)) (fails .fails .ensures .0 ∙ ap (λ v. failsOf v (a .e)) (at .effect .ensures)))
-    ∙ simp m
+    let m : marked (now (a .s)) (a .w) ≡ true = sym (mark .is-marked .ensures) ∙ fails .before .if1 .taken in
+    c .smaller .ensures ∙ ap (min (a .least)) (key .at-type .ensures ∙ ap (keyIf true (a .rule)) (fails .effect-fails .ensures)) ∙ simp m
 
 returns-2 : tie.Need-returns-2
 unfolding lessened
@@ -31,4 +28,4 @@ returns-2 c =
     c .smaller2 .ensures ∙ simp m
 
 pub effect-key-spec : {M : Type 1} → statement M
-effect-key-spec = tie.close (tie.spec (λ c κs. search needs) (λ c κs. search needs) (λ c κs. search needs) (λ c κs. c .fails .ensures .1 .within) (λ c κs. search needs) returns (λ c. search needs) (λ c. search needs) (λ c κs. search needs) returns-2)
+effect-key-spec = tie.close (tie.spec (λ c κs. search needs) (λ c κs. search needs) (λ c κs. rw (c .effect-fails .ensures) (fails-lowest _ _ .within)) (λ c κs. search needs) returns (λ c. search needs) (λ c. search needs) (λ c κs. search needs) returns-2)
