@@ -15,15 +15,10 @@ pub fn effect_to(s: &mut [u8], x: Shape, w: usize, e: Effect) -> bool
     requires { ⌜ (2 * (w + effectSize (x .types)) ≤ length (now s)) × (x .types ≤ 6) ⌝ }
     ensures { λ r. ⌜ (r ≡ not (effectUnder (now (s .entry)) x w e)) × (now (s .exit) ≡ effectTo (now (s .entry)) x w e) ⌝ }
 {
-    if sheet::is_marked(s, w) {
-        let old = sheet::effect(s, x.types, w);
-        if effect_order::at_most(old, e) {
-            return false;
-        }
-        sheet::write_effect(s, x.types, w, effect_order::both(old, e));
-        return true;
+    if sheet_compare::effect_met(s, x, w, e) {
+        return false;
     }
-    sheet::write_effect(s, x.types, w, e);
+    sheet_lower::lower_effect(s, x.types, w, e);
     true
 }
 

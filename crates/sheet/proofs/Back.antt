@@ -105,7 +105,7 @@ stock-word-at x k j l =
     let q : (1 + j + 2 * k - 1) / 2 ≡ k = omega arith in
     rw (ne-eqb (1 + j + 2 * k) 0 (λ e. omega arith), p, q)
 
-effect-word-at : (e : Effect) (k j : ℕ) → j < 4 → effectWord e (1 + j + 4 * k) ≡ effectField e k j
+pub effect-word-at : (e : Effect) (k j : ℕ) → j < 4 → effectWord e (1 + j + 4 * k) ≡ effectField e k j
 unfolding effectWord
 effect-word-at e k j l =
     let p : (1 + j + 4 * k - 1) % 4 ≡ j = omega arith in

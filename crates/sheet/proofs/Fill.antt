@@ -9,12 +9,11 @@ use native.Mathlib.Numerals.{add-one}
 use native.Mathlib.Omega.{arith}
 use Rattle.words.specs.Write.{bytesOf}
 use Rattle.words.proofs.Splice.{bytes-same}
-use Rattle.layout.specs.Layout.{stockSize, effectSize}
+use Rattle.layout.specs.Layout.{stockSize}
 use Rattle.effect.specs.declared.Stock.{Stock}
-use Rattle.effect.specs.declared.Effect.{Effect}
 use Rattle.effect.specs.Six.{six}
 use Rattle.effect.proofs.Six.{below-six}
-use Rattle.sheet.specs.Write.{stockWord, effectWord, stockBytes, effectBytes, laidOut, blanked}
+use Rattle.sheet.specs.Write.{stockWord, stockBytes, laidOut, blanked}
 
 -- the turns of a loop over t types with n words each, at type k
 pub turns : (n : ℕ) {k t : ℕ} → k < t → n * k + n ≤ n * t
@@ -71,16 +70,6 @@ stock-laid x t h p q =
     put-listed (stockWord x) (stockSize t)
     (ap (take (stockSize t)) (rw p at q)
     ∙ to-six (λ t. take (stockSize t) (laidOut (laidOut (replicate 25 1) 2 1 (x .rights) t) 2 2 (x .counts) t) ≡ listed (stockWord x) (stockSize t))
-    refl refl refl refl refl refl refl t h)
-
-pub effect-laid : (e : Effect) (t : ℕ) → t ≤ 6 → {i m c l : List ℕ} → i ≡ laidOut (replicate 25 1) 4 1 (e .keepin) t → m ≡ laidOut i 4 2 (e .keepmax) t
-    → c ≡ laidOut m 4 3 (e .cap) t → l ≡ laidOut c 4 4 (e .drop) t
-    → bytesOf (λ k. getD (take (effectSize t) l) k 0) (length (take (effectSize t) l)) ≡ effectBytes e t
-unfolding effectWord laidOut listed
-effect-laid e t h p q r s =
-    put-listed (effectWord e) (effectSize t)
-    (ap (take (effectSize t)) (rw (rw (rw p at q) at r) at s)
-    ∙ to-six (λ t. take (effectSize t) (laidOut (laidOut (laidOut (laidOut (replicate 25 1) 4 1 (e .keepin) t) 4 2 (e .keepmax) t) 4 3 (e .cap) t) 4 4 (e .drop) t) ≡ listed (effectWord e) (effectSize t))
     refl refl refl refl refl refl refl t h)
 
 -- a sheet filled with 0 to its end

@@ -12,7 +12,7 @@ ghost use Rattle.effect.specs.Six.{six, heldAt, oneAt};
 ghost use Rattle.words.specs.Write.{splice, bytesOf};
 ghost use Rattle.sheet.specs.Read.{sheetWord, markAt, marked, column, stockAt, effectAt};
 ghost use Rattle.sheet.specs.Inner.{oneWords};
-ghost use Rattle.sheet.specs.Write.{laidOut, stockBytes, effectBytes, blanked};
+ghost use Rattle.sheet.specs.Write.{laidOut, stockBytes, blanked};
 
 // Word k of the block whose first word is w.
 fn word(s: &[u8], w: usize, k: usize) -> u16
@@ -226,20 +226,5 @@ pub fn write_stock(s: &mut [u8], t: u16, w: usize, x: Stock)
     let counts = x.counts;
     let v = laid(laid([1; 25], t, 2, 1, rights), t, 2, 2, counts);
     let n = 1 + 2 * t as usize;
-    put_block(s, w, &v[..n]);
-}
-
-// The block whose first word is w is marked and gets the effect e.
-pub fn write_effect(s: &mut [u8], t: u16, w: usize, e: Effect)
-    requires { ⌜ (2 * (w + effectSize t) ≤ length (now s)) × (t ≤ 6) ⌝ }
-    ensures { λ _. ⌜ now (s .exit) ≡ splice (now (s .entry)) (2 * w) (effectBytes e t) ⌝ }
-{
-    let keepin = e.keepin;
-    let keepmax = e.keepmax;
-    let cap = e.cap;
-    let drop = e.drop;
-    let r = laid(laid([1; 25], t, 4, 1, keepin), t, 4, 2, keepmax);
-    let v = laid(laid(r, t, 4, 3, cap), t, 4, 4, drop);
-    let n = 1 + 4 * t as usize;
     put_block(s, w, &v[..n]);
 }

@@ -1,5 +1,6 @@
 // Blocks of a sheet compared where they stand, type by type.
 use effect::Effect;
+use layout::Shape;
 use single::One;
 ghost use mathlib.Core.Path.{_≡_};
 ghost use Prim.Native.Nat.{_+_, _*_, _<_, _≤_};
@@ -11,6 +12,7 @@ ghost use Rattle.effect.specs.Six.{oneAt, effectOf};
 ghost use Rattle.effect.specs.Whole.{oneIf, thenOf, failsOf};
 ghost use Rattle.sheet.specs.Read.{effectAt};
 ghost use Rattle.sheet.specs.Inner.{oneWords};
+ghost use Rattle.sheet.specs.Under.{effectUnder};
 
 // Type k of the block at v is at most type k of the block at w. Most are the same, which one comparison tells.
 fn one_under(s: &[u8], v: usize, w: usize, k: usize) -> bool
@@ -88,4 +90,14 @@ pub fn effect_fails(s: &[u8], t: u16, v: usize, e: Effect) -> usize
         return inner_fails(s, t, v, e);
     }
     effect::fails(sheet::effect(s, t, v), e)
+}
+
+// The block at v has mark 1 and its effect is at most e.
+pub fn effect_met(s: &[u8], x: Shape, v: usize, e: Effect) -> bool
+    ensures { λ r. ⌜ r ≡ effectUnder (now (s .entry)) x v e ⌝ }
+{
+    if sheet::is_marked(s, v) {
+        return effect_fails(s, x.types, v, e) == 6;
+    }
+    false
 }
