@@ -59,10 +59,17 @@ pub fn goes(f: &[u8], t: Tables, x: Shape, s: &[u8], n: u16) -> bool
     (tables::node_kind(f, t, n) <= tables::DRAW) & sheet::is_marked(s, layout::node_at(x, n))
 }
 
-// Rule 3: its effect, then the step.
+// Rule 3: its effect, then the step. Of a block that lies in the sheet it is made type by type.
 pub fn stepped(f: &[u8], t: Tables, x: Shape, s: &[u8], n: u16) -> Effect
     ensures { λ r. ⌜ r ≡ steppedIn (now (f .entry)) t x (now (s .entry)) n ⌝ }
 {
+    let w = layout::node_at(x, n);
+    let own = tables::node_number(f, t, n);
+    let block = sheet::lies_in(s, x.types, w, 4);
+    if block & (own < x.types) {
+        let step = nodes::own_step(f, t, n);
+        return sheet_compare::stepped(s, x.types, w, own as usize, step);
+    }
     effect::then(node_effect(s, x, n), nodes::step(f, t, n))
 }
 

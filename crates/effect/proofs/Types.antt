@@ -63,7 +63,7 @@ unfolding nothingDone idle
 nothing-of t = effect-of t (λ k. idle) (λ k l. omega arith) (λ k u l. refl)
 
 -- where nothing is done and nothing held, it stays so
-then-idle : thenOne idle idle ≡ idle
+pub then-idle : thenOne idle idle ≡ idle
 unfolding thenOne normalForm idle rightsAfter thenCap sumDrop normDrop less
 then-idle = refl
 

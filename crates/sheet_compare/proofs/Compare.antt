@@ -1,12 +1,12 @@
 -- Two blocks compared type by type on their words.
 use Prim.Native.Nat.{ℕ, _+_, _*_, _≤_, _<_}
 use mathlib.Core.Path.{_≡_, refl, sym, ap, subst, _∙_}
-use mathlib.Core.Bool.{Bool, true, false, not}
+use mathlib.Core.Bool.{Bool, true, false, cond, not}
 use mathlib.Core.List.{List}
-use lib.Dec.{eqb}
+use lib.Dec.{ltb, eqb}
 use lib.Bits.{bitOr, and-le-r}
 use borrow.Author.Count.{below-more}
-use borrow.Author.Tests.{ne-eqb, not-false}
+use borrow.Author.Tests.{ltb-true, ltb-false, ne-eqb, not-false}
 use native.Mathlib.Decide.{decLt}
 use native.Mathlib.Omega.{arith}
 use Rattle.words.specs.Bytes.{wordAt}
@@ -19,15 +19,18 @@ use Rattle.single.specs.declared.One.{One}
 use Rattle.single.specs.Single.{idle, applyOne}
 use Rattle.single.specs.Formulas.{thenOne, atMostOne}
 use Rattle.effect.specs.declared.Effect.{Effect}
-use Rattle.effect.specs.Six.{heldAt, stockOf, oneAt, effectOf}
+use Rattle.effect.specs.Six.{six, heldAt, stockOf, oneAt, effectOf}
 use Rattle.effect.specs.Whole.{oneIf, nothingDone, applyOf, thenOf, failsOf}
 use Rattle.effect.proofs.Count.{after-top}
 use Rattle.effect.proofs.Six.{stock-at, effect-at}
 use Rattle.effect.proofs.Single.{below-along, one-then, one-sound, one-complete, one-refl}
 use Rattle.effect.proofs.Laws.{Fits, apply-nothing}
+use Rattle.effect.proofs.Types.{then-idle}
+use Rattle.effect.proofs.Filled.{upTo}
 use Rattle.number.specs.Number.{rightsAfter}
 use Rattle.sheet.specs.Read.{sheetWord, effectAt}
 use Rattle.sheet.specs.Inner.{oneWords}
+use Rattle.sheet.proofs.Same.{six-same}
 use Rattle.sheet.proofs.Types.{one-read, idle-read}
 
 -- words that are the same are the same effect
@@ -111,6 +114,39 @@ module _ (s : List ℕ) (t v w n : ℕ) (y : One) (few : t ≤ 6) (own : n < t) 
   after-at : (k : ℕ) → k < 6 → oneAt After k ≡ thenOne (oneAt (effectAt s t w) k) (oneIf (eqb k n) y)
   unfolding thenOf
   after-at k l = effect-at (λ k. thenOne (oneAt (effectAt s t w) k) (oneAt Step k)) k l ∙ ap (thenOne (oneAt (effectAt s t w) k)) (effect-at (λ k. oneIf (eqb k n) y) k l)
+
+  abbrev pub stepAt : ℕ → One
+  stepAt k = thenOne (oneWords s w k) (oneIf (eqb k n) y)
+
+  -- a loop over the types makes the whole
+  pub step-all : _≡_ {A = Effect}
+      (record {
+        keepin = six (upTo (λ k. stepAt k .keepin) 0 t);
+        keepmax = six (upTo (λ k. stepAt k .keepmax) 65535 t);
+        cap = six (upTo (λ k. stepAt k .cap) 255 t);
+        drop = six (upTo (λ k. stepAt k .drop) 0 t);
+      })
+      After
+  unfolding thenOf idle
+  step-all =
+      λ i. record {
+        keepin = six-same (λ k l. field (λ x. x .keepin) k l (ltb k t) refl) i;
+        keepmax = six-same (λ k l. field (λ x. x .keepmax) k l (ltb k t) refl) i;
+        cap = six-same (λ k l. field (λ x. x .cap) k l (ltb k t) refl) i;
+        drop = six-same (λ k l. field (λ x. x .drop) k l (ltb k t) refl) i;
+      }
+    where
+      whole : ℕ → One
+      whole k = thenOne (oneAt (effectAt s t w) k) (oneAt Step k)
+
+      step-at : (k : ℕ) → k < 6 → oneAt Step k ≡ oneIf (eqb k n) y
+      step-at k l = effect-at (λ k. oneIf (eqb k n) y) k l
+
+      field : (g : One → ℕ) (k : ℕ) → k < 6 → (b : Bool) → ltb k t ≡ b → cond b (g (stepAt k)) (g idle) ≡ g (whole k)
+      field g k l true q = sym (ap g (λ i. thenOne (one-read s t w k (ltb-true k t q) l i) (step-at k l i)))
+      field g k l false q =
+          let u : t ≤ k = ltb-false k t q in
+          ap g (sym ((λ i. thenOne (idle-read s t w k u l i) ((step-at k l ∙ ap (λ (b : Bool). oneIf b y) (ne-eqb k n (λ e. omega arith))) i)) ∙ then-idle))
 
   type-had : (k : ℕ) → k < t → atMostOne (oneAt (effectAt s t v) k) (oneAt After k) ≡ underAt s v w n y k
   type-had k u =

@@ -1,4 +1,4 @@
-// Blocks of a sheet compared where they stand, type by type.
+// Blocks of a sheet compared, and stepped, where they stand, type by type.
 use effect::Effect;
 use layout::Shape;
 use single::One;
@@ -54,6 +54,44 @@ pub fn stepped_fails(s: &[u8], t: u16, v: usize, w: usize, n: usize, y: One) -> 
         k += 1;
     }
     6
+}
+
+// What the block at w, then y for the type n, does to type k.
+fn stepped_one(s: &[u8], w: usize, n: usize, y: One, k: usize) -> One
+    requires { ⌜ 2 * (w + (5 + 4 * k)) ≤ length (now s) ⌝ }
+    ensures { λ r. ⌜ r ≡ thenOne (oneWords (now (s .entry)) w k) (oneIf (eqb k n) y) ⌝ }
+{
+    let x = sheet::inner_one(s, w, k);
+    if k != n {
+        return single::then(x, single::nothing_done());
+    }
+    single::then(x, y)
+}
+
+// The effect of the block at w, which lies in the sheet, then y for the type n.
+pub fn stepped(s: &[u8], t: u16, w: usize, n: usize, y: One) -> Effect
+    requires { ⌜ (t ≤ 6) × (n < t) × (2 * (w + effectSize t) ≤ length (now s)) ⌝ }
+    ensures { λ r. ⌜ r ≡ thenOf (effectAt (now (s .entry)) t w) (effectOf (λ k. oneIf (eqb k n) y)) ⌝ }
+{
+    let mut keepin = [0; 6];
+    let mut keepmax = [65535; 6];
+    let mut cap = [255; 6];
+    let mut drop = [0; 6];
+    let mut k = 0;
+    while k < t as usize {
+        let x = stepped_one(s, w, n, y, k);
+        keepin[k] = x.keepin;
+        keepmax[k] = x.keepmax;
+        cap[k] = x.cap;
+        drop[k] = x.drop;
+        k += 1;
+    }
+    Effect {
+        keepin,
+        keepmax,
+        cap,
+        drop,
+    }
 }
 
 // Type k of the block at v, which lies in the sheet, is at most y.
