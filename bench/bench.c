@@ -175,16 +175,96 @@ static void measure_case(const struct bench_case *c, struct subject *s,
     measure(s, first, last, median);
 }
 
+/* A column's worst ratio, and what it may be at most. */
+struct goal {
+    double most, worst;
+    const char *where;
+};
+
+static struct goal work_out_goal = {1.2, 0, ""}, check_goal = {0.8, 0, ""};
+/* where Snellair's order takes twice the peer's sweeps */
+static const char random_graph[] = "any limit-size graph";
+static struct goal random_goal = {2.2, 0, ""};
+
+static void note_ratio(struct goal *g, double ratio, const char *where)
+{
+    if (ratio > g->worst) {
+        g->worst = ratio;
+        g->where = where;
+    }
+}
+
+/* Whether the goal is met. */
+static int print_goal(const char *column, const struct goal *g)
+{
+    printf("%-30s | %6.2f of at most %4.2f, %s\n", column, g->worst, g->most,
+           g->where);
+    return g->worst <= g->most;
+}
+
+static int print_goals(void)
+{
+    printf("\n");
+    int work_out = print_goal("worst ratio, work out", &work_out_goal);
+    int random = print_goal("", &random_goal);
+    int check = print_goal("worst ratio, check", &check_goal);
+    return work_out && random && check;
+}
+
 /* Work out and check, by Snellair and by the peer. */
+static void print_costs(const char *name, const double cost[OPERATIONS])
+{
+    double work_out = cost[SNELLAIR] / cost[SWEEPING];
+    double check = cost[SNELLAIR_CHECK] / cost[PEER_CHECK];
+    printf("%-30s | %11.1f %11.1f %6.2f %11.1f | %9.1f %9.1f %6.2f\n", name,
+           cost[SNELLAIR], cost[SWEEPING], work_out, cost[WORKLIST],
+           cost[SNELLAIR_CHECK], cost[PEER_CHECK], check);
+    fflush(stdout);
+    int random = strcmp(name, random_graph) == 0;
+    note_ratio(random ? &random_goal : &work_out_goal, work_out, name);
+    note_ratio(&check_goal, check, name);
+}
+
+static void print_heading(const char *unit)
+{
+    printf("%-30s | %-42s | %-26s\n", unit, "work out", "check");
+    printf("%-30s | %11s %11s %6s %11s | %9s %9s %6s\n", "", "snellair",
+           "sweeping", "ratio", "worklist", "snellair", "peer", "ratio");
+}
+
 static void print_case(const struct bench_case *c, struct subject *s)
 {
     double us[OPERATIONS];
     measure_case(c, s, SNELLAIR, PEER_CHECK, us);
-    printf("%-30s | %11.1f %11.1f %6.2f %11.1f | %9.1f %9.1f %6.2f\n", c->name,
-           us[SNELLAIR], us[SWEEPING], us[SNELLAIR] / us[SWEEPING],
-           us[WORKLIST], us[SNELLAIR_CHECK], us[PEER_CHECK],
-           us[SNELLAIR_CHECK] / us[PEER_CHECK]);
-    fflush(stdout);
+    print_costs(c->name, us);
+}
+
+/* One operation, for a tool that counts what it takes. */
+static int operate_once(const char *number, const char *operation,
+                        struct subject *s)
+{
+    enum operation o = (enum operation)atoi(operation);
+    build_case(&bench_cases[atoi(number)], s);
+    if (o >= SNELLAIR_CHECK)
+        operate(WORKLIST, s);
+    operate(o, s);
+    return 0;
+}
+
+/* The table of counts that were taken so, case by case, on standard input. */
+static int print_counts(void)
+{
+    print_heading("thousands of instructions");
+    for (unsigned i = 0; i < BENCH_CASES; i++) {
+        double count[OPERATIONS];
+        for (enum operation o = SNELLAIR; o <= PEER_CHECK; o++) {
+            if (scanf("%lf", &count[o]) != 1)
+                return 2;
+            count[o] /= 1000;
+        }
+        print_costs(bench_cases[i].name, count);
+    }
+    return print_goals() ? 0 : 1;
 }
 
 /* One operation of Snellair and the peer's, which is the next. */
@@ -236,12 +316,16 @@ static void print_many(const struct bench_case *c, struct subject *s)
     fflush(stdout);
 }
 
-int main(void)
+int main(int words, char **word)
 {
     static struct subject s;
-    printf("%-30s | %-42s | %-26s\n", "microseconds", "work out", "check");
-    printf("%-30s | %11s %11s %6s %11s | %9s %9s %6s\n", "", "snellair",
-           "sweeping", "ratio", "worklist", "snellair", "peer", "ratio");
+    if (words == 2 && strcmp(word[1], "cases") == 0)
+        return printf("%d\n", BENCH_CASES) < 0;
+    if (words == 2 && strcmp(word[1], "counts") == 0)
+        return print_counts();
+    if (words == 3)
+        return operate_once(word[1], word[2], &s);
+    print_heading("microseconds");
     for (unsigned i = 0; i < BENCH_CASES; i++)
         print_case(&bench_cases[i], &s);
     printf("\n%-42s | %9s %9s %6s\n", "microseconds", "snellair", "peer",
@@ -253,5 +337,5 @@ int main(void)
            "at most", "ratio", "peer", "ratio");
     for (unsigned i = 0; i < BENCH_CASES; i++)
         print_many(&bench_cases[i], &s);
-    return 0;
+    return print_goals() ? 0 : 1;
 }
