@@ -127,7 +127,7 @@ pub fn effect_fails(s: &[u8], t: u16, v: usize, e: Effect) -> usize
     if sheet::lies_in(s, t, v, 4) {
         return inner_fails(s, t, v, e);
     }
-    effect::fails(sheet::effect(s, t, v), e)
+    effect_order::fails(sheet::effect(s, t, v), e)
 }
 
 // The block at v has mark 1 and its effect is at most e.
