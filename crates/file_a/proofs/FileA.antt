@@ -32,7 +32,8 @@ use Rattle.demand.specs.Demand.{goesIn, steppedIn, calledIn}
 use Rattle.demand.specs.Walk.{rowsWalk, leavingWalk, startWalk, entryWalk, flowWalk, endWalk, nodeWalk, afterWalk, intoWalk, thrownWalk, calledWalk, tableWalk, tablesWalk, sheetWalk}
 use Rattle.accept_draws.specs.Draws.{uncoveredAt, verdictOf}
 use Rattle.lower.specs.Lower.{effectTo, stockTo}
-use Rattle.sweep.specs.Sweep.{sheetOf, wroteOf, lowers, sweepOf}
+use Rattle.engine_row.specs.Lowers.{sheetOf, wroteOf, lowers}
+use Rattle.sweep.specs.Sweep.{sweepOf}
 use Rattle.work.specs.Swept.{unswept, again}
 use Rattle.work.specs.Meaning.{WorksOut}
 use Rattle.work.proofs.Sweeping.{answers}

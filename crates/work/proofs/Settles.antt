@@ -21,7 +21,8 @@ use Rattle.layout.specs.Layout.{sheetBytes}
 use Rattle.sheet.specs.Write.{blanked}
 use Rattle.rules.specs.Sheet.{sheet}
 use Rattle.lower.proofs.Good.{height}
-use Rattle.sweep.specs.Sweep.{sheetOf, wroteOf, sweepOf}
+use Rattle.engine_row.specs.Lowers.{sheetOf, wroteOf}
+use Rattle.sweep.specs.Sweep.{sweepOf}
 use Rattle.work.specs.Swept.{Swept, unswept, again, Settled}
 use Rattle.work.specs.Meaning.{Worked}
 use Rattle.work.proofs.Meaning.{greatest-of-all}

@@ -17,8 +17,9 @@ use Rattle.rules.proofs.Exact.{rules-kept}
 use Rattle.accept_draws.specs.Draws.{verdictOf}
 use Rattle.lower.proofs.Good.{height, Good}
 use Rattle.lower.proofs.Block.{blank-good}
-use Rattle.sweep.specs.Ready.{Ready}
-use Rattle.sweep.specs.Sweep.{sheetOf, wroteOf, sweepOf}
+use Rattle.engine_row.specs.Ready.{Ready}
+use Rattle.engine_row.specs.Lowers.{sheetOf, wroteOf}
+use Rattle.sweep.specs.Sweep.{sweepOf}
 use Rattle.sweep.proofs.Sweeps.{sweep-done, settled}
 use Rattle.work.specs.Swept.{Swept, unswept, again, Settled}
 use Rattle.work.specs.Meaning.{Worked, WorksOut, wrong-length}

@@ -9,7 +9,7 @@ ghost use Rattle.tables.specs.Trailer.{tablesOf};
 ghost use Rattle.graph.specs.Judge.{judgeIn};
 ghost use Rattle.graph.specs.Judgement.{shapeOf, judgedOf};
 ghost use Rattle.sheet.specs.Write.{blanked};
-ghost use Rattle.sweep.specs.Ready.{Ready};
+ghost use Rattle.engine_row.specs.Ready.{Ready};
 ghost use Rattle.work.specs.Swept.{Settled};
 ghost use Rattle.work.specs.Meaning.{WorksOut};
 

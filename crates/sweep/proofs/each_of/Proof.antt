@@ -7,9 +7,9 @@ use Rattle.tables.specs.Rows.{rowsOf}
 use Rattle.demand.specs.Demand.{turned}
 use Rattle.demand.specs.Walk.{rowWalk, tableWalk}
 use Rattle.demand.proofs.Turned.{turned-inside}
-use Rattle.sweep.specs.Sweep.{sheetOf, lowers}
-use Rattle.sweep.proofs.Turn.{Turning, turning-start, turning-more, turning-all}
-use Rattle.sweep.proofs.Inside.{still-ready}
+use Rattle.engine_row.specs.Lowers.{sheetOf, lowers}
+use Rattle.engine_row.proofs.Turn.{Turning, turning-start, turning-more, turning-all}
+use Rattle.engine_row.proofs.Inside.{still-ready}
 use Rattle.sweep.proofs.each_of.Statement.{statement}
 use Rattle.sweep.proofs.each_of.Tie as tie
 

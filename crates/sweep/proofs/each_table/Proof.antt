@@ -4,9 +4,9 @@ use denote.Ref.{now}
 use borrow.Author.Needs.{needs}
 use Rattle.demand.specs.Demand.{tableAt}
 use Rattle.demand.specs.Walk.{tableWalk, tablesWalk}
-use Rattle.sweep.specs.Sweep.{sheetOf, lowers}
-use Rattle.sweep.proofs.Turn.{Turning, turning-start, turning-more, turning-end}
-use Rattle.sweep.proofs.Inside.{still-ready}
+use Rattle.engine_row.specs.Lowers.{sheetOf, lowers}
+use Rattle.engine_row.proofs.Turn.{Turning, turning-start, turning-more, turning-end}
+use Rattle.engine_row.proofs.Inside.{still-ready}
 use Rattle.sweep.proofs.each_table.Statement.{statement}
 use Rattle.sweep.proofs.each_table.Tie as tie
 

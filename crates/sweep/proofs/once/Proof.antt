@@ -2,7 +2,7 @@ use mathlib.Core.Path.{_∙_}
 use borrow.Author.Needs.{needs}
 use Rattle.demand.specs.Walk.{sheetWalk}
 use Rattle.sweep.specs.Sweep.{sweepOf}
-use Rattle.sweep.proofs.Inside.{still-ready}
+use Rattle.engine_row.proofs.Inside.{still-ready}
 use Rattle.sweep.proofs.once.Statement.{statement}
 use Rattle.sweep.proofs.once.Tie as tie
 

@@ -1,0 +1,6 @@
+pub mod Turn
+pub mod Inside
+pub mod Mixed
+pub mod Brought
+pub mod Done
+pub mod Still
