@@ -1,5 +1,5 @@
 -- What each thing asked keeps, the walk keeps.
---   turn-keeps, leaving-keeps, row-keeps, table-keeps, sheet-keeps
+--   turn-keeps, leaving-keeps, own-keeps, row-keeps, table-keeps, sheet-keeps
 use Prim.Native.Nat.{ℕ, zero, suc, _+_, _-_, _≤_, _<_}
 use mathlib.Core.Path.{_≡_, refl}
 use mathlib.Core.Bool.{Bool, true, false, cond}
@@ -71,25 +71,32 @@ module _ (f : List ℕ) (t : Tables) (x : Shape) {A : Type 0} (view : A → List
     called-keeps : (z : A) → P z → P (inTurn (thrownWalk f t x view take c) 0 8 (intoWalk f t x view take c (afterWalk f t x view take c z)))
     called-keeps z p = turn-keeps P _ 0 8 (λ e l m. thrown-keeps e (omega arith)) _ (into-keeps _ (after-keeps z p))
 
-  -- Two sheets that P holds of, and what is asked by them: to take it of a third keeps P.
+  -- Two sheets that P holds of, and what row k asks by them: to take it of a third keeps P.
+  abbrev pub KeepsRow : Table → ℕ → Type 0
+  KeepsRow table k = (w y z : A) (a : Ask) → P w → P y → RowAsks f t x (view w) (view y) table k a → P z → P (take a z)
+
+  pub own-keeps : (table : Table) (k : ℕ) → KeepsRow table k → (z : A) → P z → P (rowWalk f t x view take table k z)
+  unfolding entryWalk flowWalk nodeWalk endWalk calledWalk
+  own-keeps Trailer k keep z p = p
+  own-keeps Methods k keep z p = keep z z z _ p p (at-entry k) p
+  own-keeps Nodes k keep z p =
+      if-keeps P (marked (view z) (nodeAt x k))
+      (λ m.
+      either-keeps P (eqb (nodeKind f t k) returnKind) (λ q. keep z z z _ p p (at-return k m q) p)
+      (λ q. if-keeps P (eqb (nodeKind f t k) throwKind)
+      (λ g. leaving-keeps 4 6 k (nodeNumber f t k) (nodeEffect x (view z) k) (λ a h y r. keep z z y a p p (at-throw k a m q g h) r) z p) p)) p
+  own-keeps Flow k keep z p = if-keeps P (goesIn f t x (view z) (flowFrom f t k)) (λ q. keep z z z _ p p (along-flow k q) p) p
+  own-keeps Calls k keep z p =
+      if-keeps P (calledIn f t x (view z) k .marked)
+      (λ q. called-keeps (calledIn f t x (view z) k) (λ y py a h u pu. keep z y u a p py (of-call k a q h) pu) z p) p
+  own-keeps Parents k keep z p = p
+  own-keeps Catches k keep z p = p
+  own-keeps Opening k keep z p = p
+
+  -- the same of whatever is asked
   module _ (keep : (w y z : A) (a : Ask) → P w → P y → Asks f t x (view w) (view y) a → P z → P (take a z)) where
     pub row-keeps : (table : Table) (k : ℕ) → k < rowsOf t table → (z : A) → P z → P (rowWalk f t x view take table k z)
-    unfolding entryWalk flowWalk nodeWalk endWalk calledWalk
-    row-keeps Trailer k l z p = p
-    row-keeps Methods k l z p = keep z z z _ p p (of-row Methods k _ l (at-entry k)) p
-    row-keeps Nodes k l z p =
-        if-keeps P (marked (view z) (nodeAt x k))
-        (λ m.
-        either-keeps P (eqb (nodeKind f t k) returnKind) (λ q. keep z z z _ p p (of-row Nodes k _ l (at-return k m q)) p)
-        (λ q. if-keeps P (eqb (nodeKind f t k) throwKind)
-        (λ g. leaving-keeps 4 6 k (nodeNumber f t k) (nodeEffect x (view z) k) (λ a h y r. keep z z y a p p (of-row Nodes k a l (at-throw k a m q g h)) r) z p) p)) p
-    row-keeps Flow k l z p = if-keeps P (goesIn f t x (view z) (flowFrom f t k)) (λ q. keep z z z _ p p (of-row Flow k _ l (along-flow k q)) p) p
-    row-keeps Calls k l z p =
-        if-keeps P (calledIn f t x (view z) k .marked)
-        (λ q. called-keeps (calledIn f t x (view z) k) (λ y py a h u pu. keep z y u a p py (of-row Calls k a l (of-call k a q h)) pu) z p) p
-    row-keeps Parents k l z p = p
-    row-keeps Catches k l z p = p
-    row-keeps Opening k l z p = p
+    row-keeps table k l = own-keeps table k (λ w y z a pw py h. keep w y z a pw py (of-row table k a l h))
 
     pub table-keeps : (backwards : Bool) (table : Table) (z : A) → P z → P (tableWalk f t x view take backwards table z)
     unfolding tableWalk

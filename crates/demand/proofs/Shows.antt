@@ -1,6 +1,6 @@
 -- Each thing asked is taken. Q says that the sheet seen is still s, and P what is to be shown: each step keeps P, and leaves Q or brings P.
 -- Then what is asked by s, and brings P where it is taken, has brought P at the end of the walk.
---   sheet-shows
+--   row-shows, sheet-shows
 use Prim.Native.Nat.{ℕ, zero, suc, _+_, _-_, _≤_, _<_}
 use mathlib.Core.Path.{_≡_, refl, sym, subst}
 use mathlib.Core.Logic.{_⊎_, inl, inr, ⊎-elim}
@@ -137,7 +137,7 @@ module _ (f : List ℕ) (t : Tables) (x : Shape) {A : Type 0} (view : A → List
   row-P : (table : Table) (k : ℕ) → k < rowsOf t table → (z : A) → P z → P (rowWalk f t x view take table k z)
   row-P = row-keeps f t x view take P keep-P
 
-  row-shows : {table : Table} {k : ℕ} {a : Ask} → k < rowsOf t table → RowAsks f t x s s table k a → Hits a → (z : A) → R z → P (rowWalk f t x view take table k z)
+  pub row-shows : {table : Table} {k : ℕ} {a : Ask} → k < rowsOf t table → RowAsks f t x s s table k a → Hits a → (z : A) → R z → P (rowWalk f t x view take table k z)
   unfolding entryWalk flowWalk nodeWalk endWalk calledWalk
   row-shows l (at-entry m) hit z r = taken hit z r
   row-shows l (along-flow k q) hit z r =

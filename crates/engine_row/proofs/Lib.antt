@@ -4,3 +4,4 @@ pub mod Mixed
 pub mod Brought
 pub mod Done
 pub mod Still
+pub mod Kept
