@@ -1,0 +1,2 @@
+pub mod Stays
+pub mod Step
