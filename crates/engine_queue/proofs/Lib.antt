@@ -1,2 +1,4 @@
 pub mod Stays
 pub mod Step
+pub mod Moves
+pub mod Enters

@@ -272,7 +272,7 @@ module _ (f : List ℕ) (s a : List ℕ) (Q : Queue f (tablesOf f) (shapeOf (tab
           absurd (true≢false (sym (row-shows f u z sheetOf (lowers z) s (Wrote z s) (Still z s) (λ y q. q .0) (stay z s) (step z s) l h (hit z s d m) (s, false) (inr (refl, refl))) ∙ sym (ap wroteOf e)))
 
 -- and of tables and a shape that are the file's own
-own : {f : List ℕ} {t : Tables} {x : Shape} {s : List ℕ} → Ready f t x s → (P : Tables → Shape → Type 0) → P (tablesOf f) (shapeOf (tablesOf f)) → P t x
+pub own : {f : List ℕ} {t : Tables} {x : Shape} {s : List ℕ} → Ready f t x s → (P : Tables → Shape → Type 0) → P (tablesOf f) (shapeOf (tablesOf f)) → P t x
 own ready P p = subst (P _) (sym (ready .shaped)) (subst (λ y. P y (shapeOf y)) (sym (ready .own)) p)
 
 module _ {f : List ℕ} {t : Tables} {x : Shape} {s a : List ℕ} (Q : Queue f t x s a) (table : Table) (k : ℕ) (l : k < rowsOf t table) where

@@ -4,23 +4,23 @@ use mathlib.Core.Path.{_≡_}
 use mathlib.Core.Logic.{_⊎_}
 use mathlib.Core.Bool.{Bool, true, false}
 use mathlib.Core.List.{List}
-use lib.ListN.{length}
+use lib.ListN.{length, getD}
 use Rattle.answer.specs.declared.Answer.the-variants.{Pass}
 use Rattle.tables.specs.declared.Tables.{Tables}
 use Rattle.tables.specs.declared.Table.{Table}
+use Rattle.tables.specs.declared.Table.the-variants.{Methods, Nodes, Flow, Calls}
 use Rattle.tables.specs.Rows.{rowsOf}
+use Rattle.tables.specs.Fields.{flowFrom, callNode}
 use Rattle.graph.specs.Judge.{judgeOf}
 use Rattle.nodes.specs.Nodes.{openingIn}
 use Rattle.layout.specs.declared.Shape.{Shape}
 use Rattle.layout.specs.Layout.{methodAt}
-use Rattle.rows.specs.declared.Stretch.{Stretch}
-use Rattle.rows.specs.Rows.{keyOf}
-use Rattle.rows.proofs.Stretches.{In}
 use Rattle.demand.specs.Walk.{Ask, of-stock, meets}
-use Rattle.demand.proofs.Asks.{RowAsks}
+use Rattle.demand.specs.Demand.{turned}
+use Rattle.demand.proofs.Asks.{RowAsks, Asks}
 use Rattle.lower.proofs.Good.{Good, height}
 use Rattle.engine_row.specs.Ready.{Ready}
-use Rattle.engine_flags.specs.Flags.{Waits, Awake}
+use Rattle.engine_flags.specs.Flags.{Awake}
 
 module _ (f : List ℕ) (t : Tables) (x : Shape) where
   -- the sheet meets what row k asks
@@ -46,6 +46,51 @@ module _ (f : List ℕ) (t : Tables) (x : Shape) where
     pub moved : Moved s a r b wrote
     pub met : wrote ≡ false → Met s table k
 
-  pub record StretchMoved (table : Table) (z : Stretch) (s a r b : List ℕ) (wrote : Bool) : Type 0 where
+  pub record StretchMoved (table : Table) (from to : ℕ) (s a r b : List ℕ) (wrote : Bool) : Type 0 where
     pub moved : Moved s a r b wrote
-    pub met : wrote ≡ false → (j : ℕ) → In z j → Met s table j
+    pub met : wrote ≡ false → (j : ℕ) → from ≤ j → j < to → Met s table j
+
+  pub record NodeMet (s : List ℕ) (n : ℕ) : Type 0 where
+    pub flow : (k : ℕ) → k < t .flows → flowFrom f t k ≡ n → Met s Flow k
+    pub node : Met s Nodes n
+    pub calls : (k : ℕ) → k < t .calls → callNode f t k ≡ n → Met s Calls k
+
+  pub record NodeMoved (n : ℕ) (s a r b : List ℕ) (wrote : Bool) : Type 0 where
+    pub moved : Moved s a r b wrote
+    pub met : wrote ≡ false → NodeMet s n
+
+  -- Node n is visited: something was written, and the sheet is lower, or nothing, and it does not wait.
+  pub record Visited (n : ℕ) (s a r b : List ℕ) (wrote : Bool) : Type 0 where
+    pub queue : Queue r b
+    pub falls : wrote ≡ true → height x r < height x s
+    pub idle : wrote ≡ false → (r ≡ s) × (getD b n 0 ≡ 0) × ((i : ℕ) → (i ≡ n → ⊥) → getD b i 0 ≡ getD a i 0)
+
+  -- The first k of the nodes were visited, forwards or backwards.
+  pub record Passing (backwards : Bool) (k : ℕ) (s a r b : List ℕ) (wrote : Bool) : Type 0 where
+    pub queue : Queue r b
+    pub falls : wrote ≡ true → height x r < height x s
+    pub idle : wrote ≡ false → (r ≡ s) × ((j : ℕ) → j < k → getD b (turned backwards (t .nodes) j) 0 ≡ 0) × ((i : ℕ) → t .nodes ≤ i → getD b i 0 ≡ getD a i 0)
+
+  -- no node of the file waits, and no method has a flag
+  pub record Quiet (a : List ℕ) : Type 0 where
+    pub nodes : (n : ℕ) → n < t .nodes → getD a n 0 ≡ 0
+    pub methods : (i : ℕ) → 512 ≤ i → i < 640 → getD a i 0 ≡ 0
+
+  pub record Round (s r b : List ℕ) (wrote : Bool) : Type 0 where
+    pub queue : Queue r b
+    pub falls : wrote ≡ true → height x r < height x s
+    pub quiet : wrote ≡ false → Quiet b
+
+  -- the sheet is good, and meets rule 1, and rule 2 of the methods before m
+  pub record Entered (m : ℕ) (s : List ℕ) : Type 0 where
+    pub ready : Ready f t x s
+    pub passed : judgeOf f ≡ Pass
+    pub good : Good f passed s
+    pub start : meets x s (of-stock 1 (methodAt x 0) (openingIn f t)) ≡ true
+    pub entries : (k : ℕ) → k < m → Met s Methods k
+
+  -- the sheet is good, and meets all that is asked
+  pub record Settled (s : List ℕ) : Type 0 where
+    pub passed : judgeOf f ≡ Pass
+    pub good : Good f passed s
+    pub met : (a : Ask) → Asks f t x s s a → meets x s a ≡ true
