@@ -4,7 +4,7 @@ use mathlib.Core.Path.{_≡_, refl, sym, _∙_}
 use mathlib.Core.Bool.{cond}
 use lib.Dec.{eqb}
 use Rattle.answer.specs.declared.Answer.{Answer}
-use Rattle.answer.specs.declared.Answer.the-variants.{Pass, TooShort, BadCount, BadLength, BadEntry, BadNode, BadFlow, BadCall, BadCatch, BadOpening, BadSheet, BadBlock, Broken, Overdrawn, Unfit, BadParent, NoCallRow, BadRow, OutputShort}
+use Rattle.answer.specs.declared.Answer.the-variants.{Pass, TooShort, BadCount, BadLength, BadEntry, BadNode, BadFlow, BadCall, BadCatch, BadOpening, BadSheet, BadBlock, Broken, Overdrawn, Unfit, BadParent, NoCallRow, BadArea, BadRow, OutputShort}
 use Rattle.answer.specs.Number.{numberOf, typeOf, placeOf, lineOf, Says, SaysAs}
 
 -- the answer that has the number, the type, the place and the line
@@ -27,8 +27,9 @@ answerOf n k p l =
     (cond (eqb n 14) (Unfit p l)
     (cond (eqb n 15) (BadParent p)
     (cond (eqb n 17) (NoCallRow p l)
+    (cond (eqb n 23) BadArea
     (cond (eqb n 24) BadRow
-    OutputShort)))))))))))))))))
+    OutputShort))))))))))))))))))
 
 pub found : (a : Answer) → answerOf (numberOf a) (typeOf a) (placeOf a) (lineOf a) ≡ a
 found Pass = refl
@@ -48,6 +49,7 @@ found (Overdrawn n k l) = refl
 found (Unfit n l) = refl
 found (BadParent e) = refl
 found (NoCallRow n l) = refl
+found BadArea = refl
 found BadRow = refl
 found OutputShort = refl
 

@@ -3,7 +3,7 @@ use Prim.Native.Nat.{_/_, _%_, _<_}
 use mathlib.Core.Path.{_≡_, sym, _∙_}
 use native.Mathlib.Omega.{arith}
 use Rattle.answer.specs.declared.Answer.{Answer}
-use Rattle.answer.specs.declared.Answer.the-variants.{Pass, TooShort, BadCount, BadLength, BadEntry, BadNode, BadFlow, BadCall, BadCatch, BadOpening, BadSheet, BadBlock, Broken, Overdrawn, Unfit, BadParent, NoCallRow, BadRow, OutputShort}
+use Rattle.answer.specs.declared.Answer.the-variants.{Pass, TooShort, BadCount, BadLength, BadEntry, BadNode, BadFlow, BadCall, BadCatch, BadOpening, BadSheet, BadBlock, Broken, Overdrawn, Unfit, BadParent, NoCallRow, BadArea, BadRow, OutputShort}
 use Rattle.answer.specs.Number.{numberOf, typeOf, placeOf, lineOf, packedOf}
 use Rattle.answer.proofs.Settled.{answerOf, found}
 
@@ -25,6 +25,7 @@ number-small (Overdrawn n k l) = omega arith
 number-small (Unfit n l) = omega arith
 number-small (BadParent e) = omega arith
 number-small (NoCallRow n l) = omega arith
+number-small BadArea = omega arith
 number-small BadRow = omega arith
 number-small OutputShort = omega arith
 

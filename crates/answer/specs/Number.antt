@@ -2,7 +2,7 @@
 use Prim.Native.Nat.{ℕ, _+_, _*_}
 use mathlib.Core.Path.{_≡_}
 use Rattle.answer.specs.declared.Answer.{Answer}
-use Rattle.answer.specs.declared.Answer.the-variants.{Pass, TooShort, BadCount, BadLength, BadEntry, BadNode, BadFlow, BadCall, BadCatch, BadOpening, BadSheet, BadBlock, Broken, Overdrawn, Unfit, BadParent, NoCallRow, BadRow, OutputShort}
+use Rattle.answer.specs.declared.Answer.the-variants.{Pass, TooShort, BadCount, BadLength, BadEntry, BadNode, BadFlow, BadCall, BadCatch, BadOpening, BadSheet, BadBlock, Broken, Overdrawn, Unfit, BadParent, NoCallRow, BadArea, BadRow, OutputShort}
 
 pub record Said : Type 0 where
   pub number : ℕ
@@ -43,6 +43,8 @@ saidOf (Unfit n l) = said 14 0 n l
 saidOf (BadParent e) = said 15 0 e 0
 -- a call without a call row: lowest such node, and its line
 saidOf (NoCallRow n l) = said 17 0 n l
+-- queue engine only: the area has another length
+saidOf BadArea = said 23 0 0 0
 -- the sheets are not 1 to 20 whole ones, or the row has not two numbers a sheet
 saidOf BadRow = said 24 0 0 0
 -- the lent output is too short

@@ -21,6 +21,7 @@ pub enum Answer {
     Unfit(u16, u16),
     BadParent(u16),
     NoCallRow(u16, u16),
+    BadArea,
     BadRow,
     OutputShort,
 }
@@ -49,6 +50,7 @@ fn said(a: Answer) -> Parts
         Answer::Unfit(n, l) => Parts(14, 0, n, l),
         Answer::BadParent(e) => Parts(15, 0, e, 0),
         Answer::NoCallRow(n, l) => Parts(17, 0, n, l),
+        Answer::BadArea => Parts(23, 0, 0, 0),
         Answer::BadRow => Parts(24, 0, 0, 0),
         Answer::OutputShort => Parts(26, 0, 0, 0),
     }

@@ -1,18 +1,24 @@
 -- Sweeps keep a sheet good and lower it; what they settle at is what work out promises.
 use Prim.Native.Nat.{ℕ, _<_}
-use mathlib.Core.Path.{_≡_, refl, sym, ap, subst}
+use mathlib.Core.Path.{_≡_, refl, sym, ap, subst, _∙_}
 use mathlib.Core.Bool.{Bool, true, not}
 use mathlib.Core.List.{List}
 use lib.ListN.{length}
 use Rattle.answer.specs.declared.Answer.the-variants.{Pass, BadSheet}
+use Rattle.answer.specs.Number.{numberOf, SaysAs}
+use Rattle.answer.proofs.Unpack.{zero-pass}
 use Rattle.answer.proofs.Settled.{says}
 use Rattle.tables.specs.declared.Tables.{Tables}
 use Rattle.tables.specs.Trailer.{tablesOf}
 use Rattle.graph.specs.Judge.{judgeIn, judgeOf}
-use Rattle.graph.specs.Judgement.{shapeOf}
+use Rattle.graph.specs.declared.Judgement.{Judgement}
+use Rattle.graph.specs.Judgement.{shapeOf, judgedOf}
+use Rattle.graph.proofs.Whole.{own-shape}
 use Rattle.layout.specs.declared.Shape.{Shape}
 use Rattle.layout.specs.Layout.{sheetBytes}
 use Rattle.sheet.specs.Write.{blanked}
+use Rattle.demand.specs.Walk.{Ask, meets}
+use Rattle.demand.proofs.Asks.{Asks}
 use Rattle.rules.proofs.Exact.{rules-kept}
 use Rattle.accept_draws.specs.Draws.{verdictOf}
 use Rattle.lower.proofs.Good.{height, Good}
@@ -24,6 +30,10 @@ use Rattle.sweep.proofs.Sweeps.{sweep-done, settled}
 use Rattle.work.specs.Swept.{Swept, unswept, again, Settled}
 use Rattle.work.specs.Meaning.{Worked, WorksOut, wrong-length}
 use Rattle.work.proofs.Meaning.{worked, verdict}
+
+-- A good sheet that meets everything asked, whichever engine made it, is what work out promises.
+pub good-worked : (f : List ℕ) (pass : judgeOf f ≡ Pass) (r : List ℕ) → Good f pass r → ((a : Ask) → Asks f (tablesOf f) (shapeOf (tablesOf f)) r r a → meets (shapeOf (tablesOf f)) r a ≡ true) → Worked f r
+good-worked f pass r g met = worked f r pass (g .long) (g .bytes) (g .whole) (g .attained) (rules-kept f pass r (g .whole) met)
 
 module _ (f : List ℕ) (pass : judgeOf f ≡ Pass) (s : List ℕ) (long : length s ≡ sheetBytes (shapeOf (tablesOf f))) where
   abbrev t : Tables
@@ -40,9 +50,7 @@ module _ (f : List ℕ) (pass : judgeOf f ≡ Pass) (s : List ℕ) (long : lengt
   sweep-falls backwards h e = sweep-done f pass backwards _ (swept-good h) .falls (ap not e)
 
   pub settled-worked : {r : List ℕ} → Settled f t x (blanked s) r → Worked f r
-  settled-worked {r} h =
-      let g = swept-good (h .swept) in
-      worked f r pass (g .long) (g .bytes) (g .whole) (g .attained) (rules-kept f pass r (g .whole) (settled f t x r (h .backwards) (h .content) .1))
+  settled-worked {r} h = good-worked f pass r (swept-good (h .swept)) (settled f t x r (h .backwards) (h .content) .1)
 
 -- the same for tables and a shape that are the file's own
 module _ {f : List ℕ} {t : Tables} {x : Shape} {s : List ℕ} (ready : Ready f t x s) where
@@ -64,6 +72,19 @@ module _ {f : List ℕ} {t : Tables} {x : Shape} {s : List ℕ} (ready : Ready f
 -- a sheet that is as long as the file asks for is ready, and one that is not is refused
 abbrev pub Fitting : List ℕ → Tables → Shape → Type 0
 Fitting f t x = (judgeIn f t ≡ Pass) × (t ≡ tablesOf f) × (x ≡ shapeOf t)
+
+-- what the judgement of a file that passes says
+pub passed-fitting : (f : List ℕ) (j : Judgement) → j ≡ judgedOf f → numberOf (j .answer) ≡ 0 → Fitting f (j .tables) (j .shape)
+passed-fitting f j e n =
+    let p : judgeOf f ≡ Pass = zero-pass _ (ap (λ y. numberOf (y .answer)) (sym e) ∙ n) in
+    let t = ap (λ y. y .tables) e in
+    (ap (judgeIn f) t ∙ p, t, ap (λ y. y .shape) e ∙ own-shape f p ∙ ap shapeOf (sym t))
+
+-- and of one that does not
+pub judged-refused : (f : List ℕ) (j : Judgement) → j ≡ judgedOf f → (numberOf (j .answer) ≡ 0 → ⊥) → (judgeOf f ≡ Pass → ⊥) × SaysAs (j .answer) (judgeOf f)
+judged-refused f j e n =
+    let a = ap (λ y. y .answer) e in
+    (λ p. n (ap numberOf (a ∙ p)), rw a (says (judgeOf f)))
 
 module _ {f : List ℕ} {t : Tables} {x : Shape} {s : List ℕ} (fit : Fitting f t x) where
   pub make-ready : length s ≡ sheetBytes x → Ready f t x s
