@@ -7,8 +7,8 @@
  *
  * All that is asked of the caller: behind a pointer there are as many bytes,
  * of the row as many numbers, as the length after it says, and what is written,
- * the sheet, the row and the output, overlaps nothing else that is lent. With
- * length 0 a pointer is not used, and may be NULL. */
+ * the sheet, the area, the row and the output, overlaps nothing else that is
+ * lent. With length 0 a pointer is not used, and may be NULL. */
 #ifndef SNELLAIR_H
 #define SNELLAIR_H
 
@@ -26,6 +26,16 @@ extern "C" {
  * refusal it is byte for byte as it was. */
 uint64_t snellair_work_out(const uint8_t *graph, size_t graph_len,
                            uint8_t *sheet, size_t sheet_len);
+
+/* The same by another engine, which is faster on graphs that take many rounds:
+ * for a graph that is not refused, and lengths that are right, the same answer
+ * and the same bytes of the sheet, whatever the area held. The area's length is
+ * exactly SNELLAIR_AREA_BYTES; any other is answered SNELLAIR_BAD_AREA, after
+ * SNELLAIR_BAD_SHEET. After a verdict the area holds zeros; after any refusal
+ * sheet and area are as they were. */
+uint64_t snellair_work_out_queued(const uint8_t *graph, size_t graph_len,
+                                  uint8_t *sheet, size_t sheet_len,
+                                  uint8_t *area, size_t area_len);
 
 /* Checks a sheet, whoever made it, against a graph. Both are only read, and
  * the sheet's length is as above. A graph for which this answers SNELLAIR_PASS
@@ -85,11 +95,11 @@ uint64_t snellair_session(const uint8_t *graph, size_t graph_len);
 
 /* The numbers, and what the place tells. 0 and 13 are verdicts, the others
  * refusals; 11 and 12 come from check only, alone or in the row of many sheets,
- * 14 from the profiles only, 24 from the check of many sheets only, in place of
- * 10, and 26 from the listing only. From that check 0 only says that the row is
- * written.
- * The first that applies is given: 26, then 1 to 7, 15, 8, 17, 9, then 24 or 10
- * to 14, and 0 where none does; within a table the lowest row.
+ * 14 from the profiles only, 23 from the queue engine only, after 10, 24 from
+ * the check of many sheets only, in place of 10, and 26 from the listing only.
+ * From that check 0 only says that the row is written.
+ * The first that applies is given: 26, then 1 to 7, 15, 8, 17, 9, then 24 or
+ * 10, 23, 11 to 14, and 0 where none does; within a table the lowest row.
  * 12 and 13 also name a type: 13 that of the draw, 12 the lowest that fails in
  * any place where that rule is broken, or SNELLAIR_MARKS_ALONE when marks are
  * all that is missing. All others have type 0. 5, 13, 14 and 17 also name the
@@ -113,6 +123,7 @@ enum snellair_number {
     SNELLAIR_UNFIT = 14,       /* lowest node that breaks the profile */
     SNELLAIR_BAD_PARENT = 15,  /* lowest kind with a parent not lower or 255 */
     SNELLAIR_NO_CALL_ROW = 17, /* lowest call node that no call row names */
+    SNELLAIR_BAD_AREA = 23,    /* 0: the area's length */
     SNELLAIR_BAD_ROW = 24,     /* 0: the length of the sheets or of the row */
     SNELLAIR_OUTPUT_SHORT = 26 /* 0: the output's length */
 };
@@ -120,8 +131,8 @@ enum snellair_number {
 #define SNELLAIR_MARKS_ALONE 6u
 
 /* The limits: most methods, nodes and types; the longest graph file and the
- * longest sheet, in bytes; most sheets in one call; room for any listing and
- * the 0 behind it. */
+ * longest sheet, in bytes; the queue engine's area; most sheets in one call;
+ * room for any listing and the 0 behind it. */
 #define SNELLAIR_MOST_METHODS 64u
 #define SNELLAIR_MOST_NODES 512u
 #define SNELLAIR_MOST_TYPES 6u
@@ -130,6 +141,7 @@ enum snellair_number {
     SNELLAIR_SHEET_BYTES(SNELLAIR_MOST_METHODS, SNELLAIR_MOST_NODES, \
                          SNELLAIR_MOST_TYPES)
 
+#define SNELLAIR_AREA_BYTES 4096u
 #define SNELLAIR_MOST_SHEETS 20u
 #define SNELLAIR_LISTING_ROOM 46103u
 

@@ -32,7 +32,8 @@ pub fn of_judged(f: &[u8], j: Judgement, s: &mut [u8], out: &mut [u8]) -> Reply
     requires { ⌜ (j ≡ judgedOf (now f)) × Within (j .shape) × (46103 ≤ length (now out)) ⌝ }
     ensures { λ r. ⌜ Lists (now (f .entry)) (now (s .entry)) (now (s .exit)) (now (out .entry)) (now (out .exit)) (r .answer) (r .length) ⌝ }
 {
-    let a = work::of_judged(f, j, s);
+    let mut area = [0u8; 4096];
+    let a = queued::of_judged(f, j, s, &mut area);
     let n = tell(f, j, s, a, out);
     Reply {
         answer: a,

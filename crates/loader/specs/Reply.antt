@@ -9,12 +9,19 @@ use Rattle.profile.specs.Profile.{Profiled, BreaksOneShot, BreaksSession}
 use Rattle.permit.specs.Meaning.{Checks}
 use Rattle.permit.specs.Many.{ChecksMany, SafeRow}
 use Rattle.work.specs.Meaning.{WorksOut}
+use Rattle.queued.specs.Meaning.{WorksQueued}
 use Rattle.listed.specs.Lists.{Lists}
 
 -- of work out: s is the lent sheet before and r after
 pub record WorkedOut (f s r : List ℕ) (n : ℕ) : Type 0 where
   pub answer : Answer
   pub works : WorksOut f s r answer
+  pub packed : n ≡ packedOf answer
+
+-- of work out by the queue engine: the lent area was b and is c
+pub record WorkedQueued (f s r b c : List ℕ) (n : ℕ) : Type 0 where
+  pub answer : Answer
+  pub queued : WorksQueued f s r b c answer
   pub packed : n ≡ packedOf answer
 
 -- of check; the number 0 is given for no graph that has a run that overdraws

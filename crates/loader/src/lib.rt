@@ -2,7 +2,7 @@
 ghost use mathlib.Core.Path.{_≡_};
 ghost use Rattle.answer.specs.Number.{packedOf};
 ghost use Rattle.permit.specs.Check.{checkOf};
-ghost use Rattle.loader.specs.Reply.{Checked, CheckedMany, WorkedOut, OneShot, Session, ListedOut};
+ghost use Rattle.loader.specs.Reply.{Checked, CheckedMany, WorkedOut, WorkedQueued, OneShot, Session, ListedOut};
 
 // Work out: the graph file is only read, the sheet is written after the verdicts 0 and 13.
 #[no_mangle]
@@ -10,6 +10,14 @@ pub extern "C" fn snellair_work_out(f: &[u8], s: &mut [u8]) -> u64
     ensures { λ r. ⌜ WorkedOut (now (f .entry)) (now (s .entry)) (now (s .exit)) r ⌝ }
 {
     answer::packed(work::work_out(f, s))
+}
+
+// Work out by the queue engine: the same sheet, and the area holds zeros after the verdicts.
+#[no_mangle]
+pub extern "C" fn snellair_work_out_queued(f: &[u8], s: &mut [u8], area: &mut [u8]) -> u64
+    ensures { λ r. ⌜ WorkedQueued (now (f .entry)) (now (s .entry)) (now (s .exit)) (now (area .entry)) (now (area .exit)) r ⌝ }
+{
+    answer::packed(queued::work_out_queued(f, s, area))
 }
 
 // Check: both are only read.
