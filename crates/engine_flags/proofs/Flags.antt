@@ -1,5 +1,5 @@
 -- Flags that are set stay set.
-use Prim.Native.Nat.{ℕ, _+_, _≤_, _<_}
+use Prim.Native.Nat.{ℕ, _+_, _-_, _≤_, _<_}
 use mathlib.Core.Path.{_≡_, refl, sym, ap, subst, _∙_}
 use mathlib.Core.Logic.{inl, inr, ⊎-elim}
 use mathlib.Core.List.{List}
@@ -7,7 +7,10 @@ use native.Mathlib.Decide.{ℕ-discrete, decLt}
 use native.Mathlib.Omega.{arith}
 use lib.Dec.{eqb}
 use borrow.Author.Tests.{eqb-true}
-use mathlib.Core.Bool.{true, _&&_}
+use mathlib.Core.Bool.{Bool, true, false, _&&_, true≢false, false≢true}
+use Rattle.words.specs.Bytes.{byteAt, wordAt}
+use Rattle.words.specs.Four.{fourAt}
+use Rattle.words.proofs.Four.{four-zero}
 use Rattle.words.proofs.Tests.{and-l, and-r}
 use lib.ListN.{length, getD, set, replicate, length-set, length-replicate}
 use lib.Seq.{getD-set-same, getD-set-other}
@@ -21,9 +24,10 @@ use Rattle.rows.specs.declared.Stretch.{Stretch}
 use Rattle.rows.specs.Rows.{Sorted, targetOf}
 use Rattle.graph.proofs.Whole.{Limits}
 use Rattle.layout.specs.Layout.{sheetBytes}
+use Rattle.demand.specs.Demand.{turned}
 use Rattle.engine_row.specs.Ready.{Ready}
 use Rattle.engine_row.proofs.Inside as inside
-use Rattle.engine_flags.specs.Flags.{Waits, Woken, Able, Awake, AllWait, LeavesWait, PassedOn}
+use Rattle.engine_flags.specs.Flags.{Waits, Woken, Able, Awake, AllWait, LeavesWait, PassedOn, Clear}
 
 pub woken-none : (a : List ℕ) → Woken a a
 woken-none a = record { long = refl; kept = λ i w. w }
@@ -112,3 +116,60 @@ pub asleep : (f : List ℕ) (t : Tables) (a : List ℕ) (k i j : ℕ) → i ≡ 
 asleep f t a k i j p q h w =
     let z = neither-set a i j h in
     ⊎-elim (λ u. u) (λ g. absurd (⊎-elim (λ (u : Waits a (512 + callMethod f t k)). omega (arith, subst (λ v. Waits a v) (sym p) u)) (λ (u : Waits a (576 + nodeMethod f t (callNode f t k))). omega (arith, subst (λ v. Waits a v) (sym q) u)) g)) w
+
+-- the steps that are left out
+pub clear-more : (a : List ℕ) (backwards : Bool) (n k j l : ℕ) → Clear a backwards n k j → Clear a backwards n j l → Clear a backwards n k l
+clear-more a backwards n k j l h g i p q = elim (decLt i j) [
+  | yes u ↦ h i p u
+  | no u ↦ g i (omega arith) q
+]
+
+pub clear-one : (a : List ℕ) (backwards : Bool) (n k j : ℕ) → Clear a backwards n k j → getD a (turned backwards n j) 0 ≡ 0 → Clear a backwards n k (j + 1)
+clear-one a backwards n k j h e = clear-more a backwards n k j (j + 1) h (λ i p q. let z : i ≡ j = omega arith in rw z e)
+
+-- eight bytes that are 0 as one number
+module _ (a : List ℕ) (bytes : (i : ℕ) → getD a i 0 < 256) where
+  pair-zero : (p : ℕ) → wordAt a p ≡ 0 → (i : ℕ) → p ≤ i → i < p + 2 → getD a i 0 ≡ 0
+  unfolding wordAt byteAt
+  pair-zero p h i l k = elim (ℕ-discrete i p) [
+    | yes e ↦ rw e (omega (arith, bytes p, bytes (p + 1)))
+    | no e ↦ let z : i ≡ p + 1 = omega arith in rw z (omega (arith, bytes p, bytes (p + 1)))
+  ]
+
+  eight-zero : (p : ℕ) → fourAt a p ≡ 0 → (i : ℕ) → p ≤ i → i < p + 8 → getD a i 0 ≡ 0
+  eight-zero p h i l k =
+      let z = four-zero a p h in
+      elim (decLt i (p + 2)) [
+        | yes u ↦ pair-zero p (z .first) i l u
+        | no u ↦ elim (decLt i (p + 4)) [
+          | yes v ↦ pair-zero (p + 2) (z .second) i (omega arith) (omega arith)
+          | no v ↦ elim (decLt i (p + 6)) [
+            | yes w ↦ pair-zero (p + 4) (z .third) i (omega arith) (omega arith)
+            | no w ↦ pair-zero (p + 6) (z .fourth) i (omega arith) (omega arith)
+          ]
+        ]
+      ]
+
+  eight-forwards : (n j : ℕ) → fourAt a j ≡ 0 → Clear a false n j (j + 8)
+  eight-forwards n j h i l k = eight-zero j h i l k
+
+  eight-backwards : (n j : ℕ) → j + 8 ≤ n → fourAt a (n - 1 - j - 7) ≡ 0 → Clear a true n j (j + 8)
+  eight-backwards n j m h i l k = eight-zero (n - 1 - j - 7) h (n - 1 - i) (omega arith) (omega arith)
+
+  -- what is read says so
+  pub eight-back : (backwards : Bool) (n j i v : ℕ) → backwards ≡ true → i ≡ turned backwards n j → j + 8 ≤ n → v ≡ fourAt a (i - 7) → eqb v 0 ≡ true → (j + 8 ≤ n) × Clear a backwards n j (j + 8)
+  eight-back true n j i v b e m h z = (m, eight-backwards n j m (subst (λ y. fourAt a (y - 7) ≡ 0) e (sym h ∙ eqb-true v 0 z)))
+  eight-back false n j i v b e m h z = absurd (false≢true b)
+
+  pub eight-forth : (backwards : Bool) (n j i v : ℕ) → backwards ≡ false → i ≡ turned backwards n j → j + 8 ≤ n → v ≡ fourAt a i → eqb v 0 ≡ true → (j + 8 ≤ n) × Clear a backwards n j (j + 8)
+  eight-forth true n j i v b e m h z = absurd (true≢false b)
+  eight-forth false n j i v b e m h z = (m, eight-forwards n j (subst (λ y. fourAt a y ≡ 0) e (sym h ∙ eqb-true v 0 z)))
+
+-- a step back, and eight
+pub turned-eight : (backwards : Bool) (n j : ℕ) → backwards ≡ true → j + 8 ≤ n → (7 ≤ turned backwards n j) × (turned backwards n j < n)
+turned-eight true n j b m = (omega arith, omega arith)
+turned-eight false n j b m = absurd (false≢true b)
+
+pub turned-forth : (backwards : Bool) (n j : ℕ) → backwards ≡ false → turned backwards n j ≡ j
+turned-forth true n j b = absurd (true≢false b)
+turned-forth false n j b = refl

@@ -3,7 +3,7 @@
 use Prim.Native.Nat.{ℕ, _+_, _≤_, _<_}
 use mathlib.Core.Path.{_≡_}
 use mathlib.Core.Logic.{_⊎_}
-use mathlib.Core.Bool.{true, false}
+use mathlib.Core.Bool.{Bool, true, false}
 use mathlib.Core.List.{List}
 use lib.Dec.{eqb}
 use lib.ListN.{length, getD}
@@ -18,6 +18,7 @@ use Rattle.graph.specs.Judge.{judgeIn}
 use Rattle.rows.specs.declared.Stretch.{Stretch}
 use Rattle.rows.specs.Rows.{flowOf, catchesOf, uncaughtOf, targetOf}
 use Rattle.rows.proofs.Stretches.{In}
+use Rattle.demand.specs.Demand.{turned}
 
 -- the flag i is set
 abbrev pub Waits : List ℕ → ℕ → Type 0
@@ -39,6 +40,10 @@ pub record Forgot (a b : List ℕ) : Type 0 where
   pub long : length b ≡ length a
   pub nodes : (i : ℕ) → i < 512 → getD b i 0 ≡ getD a i 0
   pub methods : (i : ℕ) → 512 ≤ i → i < 640 → getD b i 0 ≡ 0
+
+-- the flags of the steps from k on and before l, of n forwards or backwards, are clear
+abbrev pub Clear : List ℕ → Bool → ℕ → ℕ → ℕ → Type 0
+Clear a backwards n k l = (j : ℕ) → k ≤ j → j < l → getD a (turned backwards n j) 0 ≡ 0
 
 module _ (f : List ℕ) (t : Tables) where
   -- row k of a table is to be looked at again

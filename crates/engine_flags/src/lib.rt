@@ -4,12 +4,13 @@ use rows::Stretch;
 use tables::Table;
 use tables::Tables;
 ghost use mathlib.Core.Path.{_≡_};
-ghost use Prim.Native.Nat.{ℕ, _<_, _≤_};
+ghost use mathlib.Core.Bool.{true};
+ghost use Prim.Native.Nat.{ℕ, _+_, _<_, _≤_};
 ghost use lib.ListN.{length};
 ghost use Rattle.tables.specs.declared.Table.the-variants.{Calls};
 ghost use Rattle.tables.specs.Rows.{rowsOf};
 ghost use Rattle.tables.specs.Fields.{callNode};
-ghost use Rattle.engine_flags.specs.Flags.{Able, Waits, Woken, Awake, Forgot, AllWait, LeavesWait, EndWaits, CallWaits, RowWaits, PassedOn, Spread};
+ghost use Rattle.engine_flags.specs.Flags.{Able, Waits, Woken, Awake, Forgot, AllWait, LeavesWait, EndWaits, CallWaits, RowWaits, PassedOn, Spread, Clear};
 
 // The flag i is set.
 fn wake(area: &mut [u8], i: usize)
@@ -155,4 +156,46 @@ pub fn wake_nodes(area: &mut [u8])
         wake(area, i);
         i += 1;
     }
+}
+
+// The flags of eight steps from step j on are clear.
+fn eight_clear(area: &[u8], backwards: bool, n: u16, j: u16) -> bool
+    requires { ⌜ (j ≤ n) × (n ≤ length (now area)) ⌝ }
+    ensures { λ r. ⌜ (r ≡ true → (j + 8 ≤ n) × Clear (now (area .entry)) backwards n j (j + 8)) ⌝ }
+{
+    if n - j < 8 {
+        return false;
+    }
+    let i = demand::at_step(backwards, n, j) as usize;
+    if backwards {
+        return words::inner_four(area, i - 7) == 0;
+    }
+    words::inner_four(area, i) == 0
+}
+
+// Steps are left out eight at a time,
+fn past_eights(area: &[u8], backwards: bool, n: u16, k: u16) -> u16
+    requires { ⌜ (k ≤ n) × (n ≤ length (now area)) × (n ≤ 512) ⌝ }
+    ensures { λ r. ⌜ (k ≤ r) × (r ≤ n) × Clear (now (area .entry)) backwards n k r ⌝ }
+{
+    let mut j = k;
+    while eight_clear(area, backwards, n, j) {
+        j += 8;
+    }
+    j
+}
+
+// and then one at a time, up to the first from step k on whose node waits.
+pub fn next(area: &[u8], backwards: bool, n: u16, k: u16) -> u16
+    requires { ⌜ (k ≤ n) × (n ≤ length (now area)) × (n ≤ 512) ⌝ }
+    ensures { λ r. ⌜ (k ≤ r) × (r ≤ n) × Clear (now (area .entry)) backwards n k r ⌝ }
+{
+    let mut j = past_eights(area, backwards, n, k);
+    while j < n {
+        if area[demand::at_step(backwards, n, j) as usize] != 0 {
+            return j;
+        }
+        j += 1;
+    }
+    j
 }

@@ -31,7 +31,8 @@ use Rattle.lower.proofs.Good.{height}
 use Rattle.engine_row.specs.Ready.{Ready}
 use Rattle.engine_row.specs.Lowers.{sheetOf, lowers}
 use Rattle.engine_row.proofs.Inside.{limit, sorted, method-of, call-node, call-method}
-use Rattle.engine_flags.specs.Flags.{Waits, Woken, Awake, RowWaits, Spread, Able}
+use Rattle.engine_flags.specs.Flags.{Waits, Woken, Awake, RowWaits, Spread, Able, Clear}
+use Rattle.engine_flags.proofs.Flags.{clear-more}
 use Rattle.engine_queue.proofs.Step.{row-wrote, row-idle}
 use Rattle.engine_queue.specs.Queue.{Met, Queue, Moved, RowMoved, StretchMoved, NodeMet, NodeMoved, Visited, Passing, Quiet, Round, Entered, Settled}
 
@@ -303,8 +304,10 @@ module _ {f : List ℕ} {t : Tables} {x : Shape} where
           idle = λ y. (z .0, getD-set-same b n 0 0 (omega (arith, q .wide, limit (q .ready) .nodes)), λ i ne. getD-set-other b n i 0 0 ne ∙ ap (λ v. getD v i 0) (z .1));
         }
 
-  pub unvisited : {s a : List ℕ} (n : ℕ) → Queue f t x s a → getD a n 0 ≡ 0 → Visited f t x n s a s a false
-  unvisited n Q e = record { queue = Q; falls = λ y. absurd (false≢true y); idle = λ y. (refl, e, λ i ne. refl) }
+  -- steps are left out whose nodes don't wait
+  pub passing-on : {s a r b : List ℕ} (backwards : Bool) {k : ℕ} (l : ℕ) (w : Bool) → Passing f t x backwards k s a r b w → Clear b backwards (t .nodes) k l → Passing f t x backwards l s a r b w
+  passing-on {b = b} backwards {k} l w p h =
+      record { queue = p .queue; falls = p .falls; idle = λ e. (p .idle e .0, λ j m. clear-more b backwards (t .nodes) 0 k l (λ i u v. p .idle e .1 i v) h j (omega arith) m, p .idle e .2) }
 
   -- as far as there are nodes, and methods
   pub passing-all : {s a r b : List ℕ} (backwards : Bool) {k : ℕ} (w : Bool) → t .nodes ≤ k → Passing f t x backwards k s a r b w → Passing f t x backwards (t .nodes) s a r b w

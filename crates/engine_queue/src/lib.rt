@@ -64,34 +64,30 @@ fn of_node(f: &[u8], t: Tables, x: Shape, s: &mut [u8], area: &mut [u8], n: u16)
     row(f, t, x, s, area, Table::Nodes, n)
 }
 
-// Node n, if it waits. Where its rows wrote nothing, all that they ask is met, and it waits no longer.
+// Node n. Where its rows wrote nothing, all that they ask is met, and it waits no longer.
 fn visit(f: &[u8], t: Tables, x: Shape, s: &mut [u8], area: &mut [u8], n: u16) -> bool
     requires { ⌜ Queue (now f) t x (now s) (now area) × (n < t .nodes) ⌝ }
     ensures { λ r. ⌜ Visited (now (f .entry)) t x n (now (s .entry)) (now (area .entry)) (now (s .exit)) (now (area .exit)) r ⌝ }
 {
-    let i = n as usize;
-    if area[i] == 0 {
-        return false;
-    }
     if of_node(f, t, x, s, area, n) {
         return true;
     }
-    area[i] = 0;
+    area[n as usize] = 0;
     false
 }
 
-// All nodes, forwards or backwards.
+// All nodes that wait, forwards or backwards.
 fn pass(f: &[u8], t: Tables, x: Shape, s: &mut [u8], area: &mut [u8], backwards: bool) -> bool
     requires { ⌜ Queue (now f) t x (now s) (now area) ⌝ }
     ensures { λ r. ⌜ Passing (now (f .entry)) t x backwards (t .nodes) (now (s .entry)) (now (area .entry)) (now (s .exit)) (now (area .exit)) r ⌝ }
 {
     let n = t.nodes;
     let mut wrote = false;
-    let mut k = 0;
+    let mut k = engine_flags::next(area, backwards, n, 0);
     while k < n {
         let one = visit(f, t, x, s, area, demand::at_step(backwards, n, k));
         wrote = wrote | one;
-        k += 1;
+        k = engine_flags::next(area, backwards, n, k + 1);
     }
     wrote
 }
