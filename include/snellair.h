@@ -27,12 +27,13 @@ extern "C" {
 uint64_t snellair_work_out(const uint8_t *graph, size_t graph_len,
                            uint8_t *sheet, size_t sheet_len);
 
-/* The same by another engine, which is faster on graphs that take many rounds:
- * for a graph that is not refused, and lengths that are right, the same answer
- * and the same bytes of the sheet, whatever the area held. The area's length is
- * exactly SNELLAIR_AREA_BYTES; any other is answered SNELLAIR_BAD_AREA, after
- * SNELLAIR_BAD_SHEET. After a verdict the area holds zeros; after any refusal
- * sheet and area are as they were. */
+/* Works out the sheet of a graph as snellair_work_out does, with the same
+ * answer and the same bytes, but looks again only at what depends on a change:
+ * for graphs on which sweeps over all tables take long. It keeps note of that
+ * in an area of exactly SNELLAIR_AREA_BYTES bytes; any other length is answered
+ * SNELLAIR_BAD_AREA, if neither the graph nor the sheet's length is refused.
+ * What the area held before does not matter. After a verdict it holds zeros;
+ * after any refusal sheet and area are byte for byte as they were. */
 uint64_t snellair_work_out_queued(const uint8_t *graph, size_t graph_len,
                                   uint8_t *sheet, size_t sheet_len,
                                   uint8_t *area, size_t area_len);
@@ -95,11 +96,11 @@ uint64_t snellair_session(const uint8_t *graph, size_t graph_len);
 
 /* The numbers, and what the place tells. 0 and 13 are verdicts, the others
  * refusals; 11 and 12 come from check only, alone or in the row of many sheets,
- * 14 from the profiles only, 23 from the queue engine only, after 10, 24 from
- * the check of many sheets only, in place of 10, and 26 from the listing only.
- * From that check 0 only says that the row is written.
+ * 14 from the profiles only, 23 from work out with a queue only, 24 from the
+ * check of many sheets only, in place of 10, and 26 from the listing only. From
+ * that check 0 only says that the row is written.
  * The first that applies is given: 26, then 1 to 7, 15, 8, 17, 9, then 24 or
- * 10, 23, 11 to 14, and 0 where none does; within a table the lowest row.
+ * 10, 23 and 11 to 14, and 0 where none does; within a table the lowest row.
  * 12 and 13 also name a type: 13 that of the draw, 12 the lowest that fails in
  * any place where that rule is broken, or SNELLAIR_MARKS_ALONE when marks are
  * all that is missing. All others have type 0. 5, 13, 14 and 17 also name the
@@ -131,8 +132,8 @@ enum snellair_number {
 #define SNELLAIR_MARKS_ALONE 6u
 
 /* The limits: most methods, nodes and types; the longest graph file and the
- * longest sheet, in bytes; the queue engine's area; most sheets in one call;
- * room for any listing and the 0 behind it. */
+ * longest sheet, in bytes; the bytes of the area; most sheets in one call; room
+ * for any listing and the 0 behind it. */
 #define SNELLAIR_MOST_METHODS 64u
 #define SNELLAIR_MOST_NODES 512u
 #define SNELLAIR_MOST_TYPES 6u

@@ -16,11 +16,12 @@
 enum {
     MARGIN = 64,
     ROOM = MOST_SHEET_BYTES + MOST_ADDED + 2 * MARGIN,
+    AREA_ROOM = MOST_AREA + 2 * MARGIN,
     ROW_ROOM = MOST_ROW + 2 * MARGIN
 };
 
-/* What is written, a sheet or a row, stands between margins that nobody may
- * write. */
+/* What is written, a sheet, an area or a row, stands between margins that
+ * nobody may write. */
 struct one_case {
     uint64_t seed, number;
     uint64_t answer; /* the last that work out gave */
@@ -28,7 +29,8 @@ struct one_case {
     size_t graph_len, sheet_len;
     uint8_t graph[MOST_GRAPH_BYTES + MOST_ADDED];
     uint8_t graph_before[MOST_GRAPH_BYTES + MOST_ADDED];
-    uint8_t ours[ROOM], theirs[ROOM];
+    uint8_t ours[ROOM], theirs[ROOM], plain[ROOM];
+    uint8_t area[AREA_ROOM], our_area[AREA_ROOM], their_area[AREA_ROOM];
     uint8_t sheets[MOST_SHEETS_BYTES], sheets_before[MOST_SHEETS_BYTES];
     uint32_t our_row[ROW_ROOM], their_row[ROW_ROOM];
 };
@@ -36,7 +38,7 @@ struct one_case {
 /* What came of each comparison. */
 struct tallies {
     struct tally wrong_length, work_out, check, one_shot, session, fitting;
-    struct tally damaged, lines, opening;
+    struct tally damaged, lines, opening, queued, queued_damaged;
     struct openings openings;
     struct many_tally many;
 };
@@ -106,6 +108,80 @@ static bool compare_work_out(struct one_case *c, size_t sheet_len,
     c->answer = ours;
     tally_note(tally, ours);
     return agree(c, "work out", ours, theirs);
+}
+
+/* All are lent the same sheet, and the two with a queue the same area. */
+static void lend_queued(struct random *r, struct one_case *c, size_t sheet_len)
+{
+    random_fill(r, c->ours, sheet_len + 2 * MARGIN);
+    lend(c, sheet_len);
+    memcpy(c->plain, c->ours, sheet_len + 2 * MARGIN);
+    generate_area(r, c->area, AREA_ROOM);
+    memcpy(c->our_area, c->area, AREA_ROOM);
+    memcpy(c->their_area, c->area, AREA_ROOM);
+}
+
+/* Whether Snellair's sheet is as it was lent or, when plain work out has been
+ * asked, as that leaves it. */
+static bool same_as_plain(const struct one_case *c)
+{
+    return memcmp(c->plain, c->theirs, c->sheet_len + 2 * MARGIN) == 0;
+}
+
+/* What is wrong with what Snellair's queue left, or NULL: a refusal leaves
+ * sheet and area, a verdict the plain engine's sheet and zeros. */
+static const char *queued_fault(struct one_case *c, size_t area_len,
+                                uint64_t answer)
+{
+    if (is_verdict(answer))
+        memset(c->area + MARGIN, 0, area_len);
+    else if (!same_as_plain(c))
+        return "a refusal that writes the sheet";
+    if (memcmp(c->area, c->their_area, AREA_ROOM) != 0)
+        return "an area that is not as it was, or not zeros after a verdict";
+    if (number_in(answer) == 23)
+        return NULL;
+    if (snellair_work_out(c->graph, c->graph_len, c->plain + MARGIN,
+                          c->sheet_len) != answer)
+        return "the plain engine answers otherwise";
+    return same_as_plain(c) ? NULL : "the plain engine has another sheet";
+}
+
+/* Which lengths are wrong. */
+enum { WRONG_SHEET = 1, WRONG_AREA = 2, WRONGS = 4 };
+
+static bool compare_queued(struct random *r, struct one_case *c,
+                           unsigned wrong, struct tally *tally)
+{
+    static const char name[] = "work out with a queue";
+    size_t sheet_len = sheet_bytes(draft_shape(&c->draft));
+    if (wrong & WRONG_SHEET)
+        sheet_len = generate_wrong_length(r, sheet_len);
+    size_t area_len = wrong & WRONG_AREA ? generate_wrong_area(r) : AREA_BYTES;
+    bool any = area_len > 0;
+    lend_queued(r, c, sheet_len);
+    uint64_t ours = peer_work_out_queued(
+        c->graph, c->graph_len, c->ours + MARGIN, sheet_len,
+        any ? c->our_area + MARGIN : NULL, area_len);
+    uint64_t theirs = snellair_work_out_queued(
+        c->graph, c->graph_len, c->theirs + MARGIN, sheet_len,
+        any ? c->their_area + MARGIN : NULL, area_len);
+    tally_note(tally, ours);
+    if (!agree(c, name, ours, theirs))
+        return false;
+    if (memcmp(c->our_area, c->their_area, AREA_ROOM) != 0)
+        return blame(c, name, "another area, or a margin written");
+    const char *fault = queued_fault(c, area_len, theirs);
+    return fault == NULL || blame(c, name, fault);
+}
+
+static bool compare_queues(struct random *r, struct one_case *c,
+                           struct tally *tally)
+{
+    for (unsigned wrong = 0; wrong < WRONGS; wrong++)
+        if (!compare_queued(r, c, wrong, tally))
+            return false;
+    return true;
 }
 
 static bool compare_check(struct one_case *c, size_t sheet_len,
@@ -268,6 +344,7 @@ static bool compare_damaged(struct random *r, struct one_case *c,
         damage_graph(r, c);
         if (!compare_work_out(c, sheet_bytes(draft_shape(&c->draft)),
                               &tallies->damaged)
+            || !compare_queued(r, c, i % WRONGS, &tallies->queued_damaged)
             || !compare_profiles(c, tallies))
             return false;
     }
@@ -352,6 +429,7 @@ static bool compare_case(struct one_case *c, struct tallies *tallies)
         && compare_many(&r, c, given, &tallies->many)
         && compare_lines(&r, c, right, &tallies->lines)
         && compare_profiles(c, tallies)
+        && compare_queues(&r, c, &tallies->queued)
         && compare_opening(&r, c, one, tallies)
         && compare_fitting(&r, c, tallies) && compare_damaged(&r, c, tallies);
 }
@@ -368,7 +446,21 @@ static void print_tallies(const struct tallies *t)
     tally_print("other lines", &t->lines);
     tally_print("work out with another opening stock", &t->opening);
     openings_print(&t->openings);
+    tally_print("work out with a queue", &t->queued);
+    tally_print("the same on damaged files", &t->queued_damaged);
     many_tally_print(&t->many);
+}
+
+/* Whether verdicts, 23, 10 and refusals of the file all came often enough, the
+ * last on damaged files. */
+static bool queues_suffice(const struct tallies *t, uint64_t cases)
+{
+    const struct tally *damaged = &t->queued_damaged;
+    unsigned long stayed = tally_verdicts(damaged) + damaged->times[10]
+                         + damaged->times[23];
+    return 2 * tally_verdicts(&t->queued) >= cases
+        && 2 * t->queued.times[23] >= cases && t->queued.times[10] >= cases
+        && tally_all(damaged) - stayed >= cases;
 }
 
 /* Why the cases say too little, or NULL. */
@@ -378,6 +470,8 @@ static const char *lack(const struct tallies *t, uint64_t cases)
         return "fewer than half of the graphs came to a verdict";
     if (!openings_suffice(&t->openings))
         return "too few opening stocks made a difference";
+    if (!queues_suffice(t, cases))
+        return "work out with a queue came to too few of its answers";
     if (!many_tally_suffices(&t->many))
         return "the rows of check many say too little";
     return NULL;

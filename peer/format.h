@@ -17,6 +17,7 @@ enum {
     MOST_CATCHES = 512,
     MOST_TYPES = 6,
     MOST_SHEETS = 20, /* that check many takes */
+    AREA_BYTES = 4096, /* that work out with a queue is lent */
     EXCEPTIONS = 8,  /* each has a parent, one byte, just before the catches */
     NO_PARENT = 255,
     TRAILER_BYTES = 14,

@@ -873,6 +873,22 @@ size_t generate_sheet(struct random *r, enum sheet_kind kind,
     return length;
 }
 
+size_t generate_wrong_area(struct random *r)
+{
+    static const size_t edges[6] = {0, 1, AREA_BYTES / 2, AREA_BYTES - 1,
+                                    AREA_BYTES + 1, MOST_AREA};
+    return one_in(r, 4) ? generate_wrong_length(r, AREA_BYTES)
+                        : edges[random_below(r, 6)];
+}
+
+void generate_area(struct random *r, uint8_t *area, size_t length)
+{
+    static const uint8_t same[3] = {0, 1, 0xFF};
+    random_fill(r, area, length);
+    if (one_in(r, 4))
+        memset(area, same[random_below(r, 3)], length);
+}
+
 struct lengths generate_sheets(struct random *r, unsigned count,
                                const struct draft *d, const uint8_t *given,
                                uint8_t *sheets)

@@ -87,6 +87,15 @@ size_t generate_sheet(struct random *r, enum sheet_kind kind,
                       const struct draft *d, const uint8_t *given,
                       uint8_t *sheet);
 
+/* The most that is generated for the area of work out with a queue. */
+enum { MOST_AREA = 2 * AREA_BYTES };
+
+/* Any other length than AREA_BYTES. */
+size_t generate_wrong_area(struct random *r);
+
+/* What it held before: any bytes, or the same one all over. */
+void generate_area(struct random *r, uint8_t *area, size_t length);
+
 /* What check many is lent: bytes of sheets, numbers of the row. */
 struct lengths {
     size_t sheets, row;

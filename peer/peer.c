@@ -684,22 +684,40 @@ static void look_again(const struct desk *d, const struct chains *chains,
         look_at_callers(d, chains, method, block - exit_block(method, 0));
 }
 
+/* Of a sheet with the right length. */
+static uint64_t work_out_by_list(const struct graph *g, uint8_t *sheet)
+{
+    struct chains chains;
+    struct worklist w = {.graph = g, .sheet = sheet};
+    struct desk d = {g, sheet, lower_and_queue, &w};
+    chain_calls(g, &chains);
+    memset(sheet, 0, sheet_bytes(g->shape));
+    say_beginnings(&d);
+    while (w.length > 0)
+        look_again(&d, &chains, next_block(&w));
+    return verdict(g, sheet);
+}
+
 uint64_t peer_work_out(const uint8_t *graph, size_t graph_len,
                        uint8_t *sheet, size_t sheet_len)
 {
     struct graph g;
-    struct chains chains;
+    uint64_t refusal = judge(&g, graph, graph_len, sheet_len);
+    return refusal != 0 ? refusal : work_out_by_list(&g, sheet);
+}
+
+uint64_t peer_work_out_queued(const uint8_t *graph, size_t graph_len,
+                              uint8_t *sheet, size_t sheet_len,
+                              uint8_t *area, size_t area_len)
+{
+    struct graph g;
     uint64_t refusal = judge(&g, graph, graph_len, sheet_len);
     if (refusal != 0)
         return refusal;
-    struct worklist w = {.graph = &g, .sheet = sheet};
-    struct desk d = {&g, sheet, lower_and_queue, &w};
-    chain_calls(&g, &chains);
-    memset(sheet, 0, sheet_len);
-    say_beginnings(&d);
-    while (w.length > 0)
-        look_again(&d, &chains, next_block(&w));
-    return verdict(&g, sheet);
+    if (area_len != AREA_BYTES)
+        return packed(23, 0);
+    memset(area, 0, AREA_BYTES);
+    return work_out_by_list(&g, sheet);
 }
 
 /* ---- Check ---- */

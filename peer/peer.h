@@ -17,6 +17,13 @@ uint64_t peer_work_out(const uint8_t *graph, size_t graph_len,
 uint64_t peer_work_out_sweeping(const uint8_t *graph, size_t graph_len,
                                 uint8_t *sheet, size_t sheet_len);
 
+/* The same with a lent area of AREA_BYTES, which holds zeros after a verdict;
+ * the peer's list stands elsewhere. An area of another length is answered 23,
+ * after 10. Every refusal leaves sheet and area as they were. */
+uint64_t peer_work_out_queued(const uint8_t *graph, size_t graph_len,
+                              uint8_t *sheet, size_t sheet_len,
+                              uint8_t *area, size_t area_len);
+
 uint64_t peer_check(const uint8_t *graph, size_t graph_len,
                     const uint8_t *sheet, size_t sheet_len);
 

@@ -1,8 +1,8 @@
 /* Tests the peer alone: effects against their meaning, document 01's figures,
  * families of exceptions, profiles, one engine against the other, check against
- * work out and against the rules word by word, lines, opening stocks, many
- * sheets in one call, and the worked-out sheet against runs. Ends with status 1
- * at the first thing that fails. */
+ * work out and against the rules word by word, lines, opening stocks, a lent
+ * area, many sheets in one call, and the worked-out sheet against runs. Ends
+ * with status 1 at the first thing that fails. */
 #include "answer.h"
 #include "effect.h"
 #include "generate.h"
@@ -1163,6 +1163,96 @@ static void test_openings(unsigned cases, struct draft *d, uint8_t *sheet)
     expect(openings_suffice(&seen), "enough to see", cases);
 }
 
+/* ---- A lent area ---- */
+
+/* Lends just so many bytes. A refusal must leave sheet and area, a verdict
+ * zeros in the area. */
+static uint64_t work_out_queued(const uint8_t *graph, size_t length,
+                                uint8_t *sheet, size_t sheet_len,
+                                const uint8_t *area, size_t area_len)
+{
+    static const uint8_t zeros[AREA_BYTES];
+    uint8_t *lent_graph = copy_of(graph, length);
+    uint8_t *lent_sheet = copy_of(sheet, sheet_len);
+    uint8_t *lent_area = copy_of(area, area_len);
+    uint64_t answer = peer_work_out_queued(lent_graph, length, lent_sheet,
+                                           sheet_len, lent_area, area_len);
+    bool worked = is_verdict(answer);
+    expect(worked || memcmp(sheet, lent_sheet, sheet_len) == 0, "sheet left",
+           answer);
+    expect(memcmp(worked ? zeros : area, lent_area, area_len) == 0,
+           "area left, or zeros", answer);
+    memcpy(sheet, lent_sheet, sheet_len);
+    free(lent_graph);
+    free(lent_sheet);
+    free(lent_area);
+    return answer;
+}
+
+/* As the other engines, but for 23 in place of their verdict. */
+static void test_queued_of(const uint8_t *graph, size_t length, uint8_t *sheet,
+                           size_t sheet_len, const uint8_t *area,
+                           size_t area_len, struct tally *seen)
+{
+    uint8_t *plain = copy_of(sheet, sheet_len);
+    uint64_t due = work_out(graph, length, plain, sheet_len);
+    bool refused = is_verdict(due) && area_len != 4096;
+    if (refused) {
+        due = packed(23, 0);
+        memcpy(plain, sheet, sheet_len);
+    }
+    tally_note(seen, due);
+    expect(work_out_queued(graph, length, sheet, sheet_len, area, area_len)
+               == due, "with an area", due);
+    expect(memcmp(sheet, plain, sheet_len) == 0, "the same sheet", due);
+    free(plain);
+}
+
+/* File A with every length of the area. */
+static void test_lengths_of_area(struct draft *d, uint8_t *sheet,
+                                 const uint8_t area[MOST_AREA])
+{
+    struct tally seen = {0};
+    uint8_t graph[MOST_GRAPH_BYTES];
+    draft_file_a(d, 2, 2);
+    size_t length = draft_write(d, graph), len = sheet_bytes(draft_shape(d));
+    memset(sheet, 0xA5, len);
+    for (size_t area_len = 0; area_len <= MOST_AREA; area_len++)
+        test_queued_of(graph, length, sheet, len, area, area_len, &seen);
+    expect(seen.times[0] == 1 && seen.times[23] == MOST_AREA, "one length", 0);
+    expect(peer_work_out_queued(graph, length, sheet, len, NULL, 0)
+               == packed(23, 0), "no area", 0);
+    expect(peer_work_out_queued(graph, length, NULL, 0, NULL, 0)
+               == packed(10, 0), "no sheet and no area", 0);
+}
+
+/* Right lengths and wrong ones together, one of them or both; then the same on
+ * a damaged file. */
+static void test_queued(unsigned cases, struct draft *d, uint8_t *sheet)
+{
+    uint8_t area[MOST_AREA];
+    struct tally seen = {0};
+    memset(area, 0xA5, sizeof area);
+    test_lengths_of_area(d, sheet, area);
+    for (unsigned i = 0; i < 4 * cases; i++) {
+        struct random r = random_of(SEED + 10, i);
+        uint8_t graph[MOST_GRAPH_BYTES + MOST_ADDED];
+        generate_graph(&r, &small, d);
+        size_t length = draft_write(d, graph);
+        size_t sheet_len = sheet_bytes(draft_shape(d)), area_len = AREA_BYTES;
+        if (i & 1)
+            sheet_len = generate_wrong_length(&r, sheet_len);
+        if (i & 2)
+            area_len = generate_wrong_area(&r);
+        if (i & 4)
+            length = generate_damage(&r, d, graph, length);
+        random_fill(&r, sheet, sheet_len);
+        generate_area(&r, area, area_len);
+        test_queued_of(graph, length, sheet, sheet_len, area, area_len, &seen);
+    }
+    tally_print("with a lent area", &seen);
+}
+
 /* ---- Check many ---- */
 
 /* Lends just what the lengths say. A refusal must leave the row. */
@@ -1350,6 +1440,7 @@ int main(int argc, char **argv)
     test_damaged_files(2 * cases, &d, sheet);
     test_lines(cases, &d, sheet);
     test_openings(cases, &d, sheet);
+    test_queued(cases, &d, sheet);
     test_many(cases, &d, sheet);
     test_runs(2 * cases, &d, sheet);
     printf("all passed\n");
