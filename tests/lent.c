@@ -4,75 +4,13 @@
  * pages between two that can't be touched; what is only read can't be written. A
  * byte read or written beside those lent, or through a pointer that comes with
  * length 0, ends the program by a signal. */
-#define _DEFAULT_SOURCE
-#include "snellair.h"
-
-#include <stdio.h>
-#include <stdlib.h>
-#include <string.h>
-#include <sys/mman.h>
-#include <unistd.h>
-
-/* Pages to lend, with one before and one after that can't be touched. */
-struct area {
-    uint8_t *start;
-    size_t size;
-};
-
-static void fail(const char *what)
-{
-    fprintf(stderr, "lent: %s\n", what);
-    exit(1);
-}
-
-static struct area make_area(size_t room)
-{
-    size_t page = (size_t)sysconf(_SC_PAGESIZE);
-    size_t size = (room + page - 1) / page * page;
-    uint8_t *all = mmap(NULL, size + 2 * page, PROT_NONE,
-                        MAP_PRIVATE | MAP_ANONYMOUS, -1, 0);
-    if (all == MAP_FAILED)
-        fail("no memory");
-    return (struct area){all + page, size};
-}
-
-static void permit(struct area area, int what)
-{
-    if (mprotect(area.start, area.size, what) != 0)
-        fail("mprotect");
-}
-
-static uint8_t *place(struct area area, size_t length, int at_end)
-{
-    return at_end ? area.start + area.size - length : area.start;
-}
-
-static size_t word(const uint8_t *bytes)
-{
-    return bytes[0] + 256u * bytes[1];
-}
+#include "guarded.h"
 
 /* The numbers that refuse a graph, whatever the sheet: 1 to 9, 15 and 17. */
 static int refuses_graph(unsigned number)
 {
     return (number >= SNELLAIR_TOO_SHORT && number <= SNELLAIR_BAD_OPENING) ||
            number == SNELLAIR_BAD_PARENT || number == SNELLAIR_NO_CALL_ROW;
-}
-
-/* The length of the sheet of a graph that is not refused. */
-static size_t sheet_length(const uint8_t *graph, size_t length)
-{
-    const uint8_t *trailer = graph + length - 14;
-    return SNELLAIR_SHEET_BYTES(word(trailer), word(trailer + 2),
-                                word(trailer + 10));
-}
-
-static void expect(int holds, const char *name, const char *what)
-{
-    if (holds)
-        return;
-    fprintf(stderr, "lent, %s: %s\n", name, what);
-    exit(1);
 }
 
 /* What a profile answers, and what work out answers with no sheet. */
@@ -90,16 +28,16 @@ static void expect_profiled(uint64_t answer, uint64_t refused, const char *name)
  * one of another length, which can't be touched. */
 static void try_many(const char *name, const uint8_t *graph, size_t length,
                      const uint8_t *sheet, size_t sheet_size, uint64_t verdict,
-                     struct area area, int at_end)
+                     struct pages rows, int at_end)
 {
-    uint32_t *row = (uint32_t *)(void *)place(area, 2 * sizeof *row, at_end);
-    permit(area, PROT_READ | PROT_WRITE);
+    uint32_t *row = (uint32_t *)(void *)place(rows, 2 * sizeof *row, at_end);
+    permit(rows, PROT_READ | PROT_WRITE);
     expect(snellair_check_many(graph, length, sheet, sheet_size, row, 2) ==
                    SNELLAIR_PASS &&
                row[0] == SNELLAIR_NUMBER(verdict) &&
                row[1] == SNELLAIR_PLACE(verdict),
            name, "the row does not say what check answers");
-    permit(area, PROT_NONE);
+    permit(rows, PROT_NONE);
     expect(snellair_check_many(graph, length, sheet, sheet_size, row, 1) ==
                    SNELLAIR_BAD_ROW &&
                snellair_check_many(graph, length, sheet, sheet_size - 1, row,
@@ -109,7 +47,7 @@ static void try_many(const char *name, const uint8_t *graph, size_t length,
 
 /* A graph where it can only be read: first with no sheet, then with its own. */
 static void try_graph(const char *name, const uint8_t *graph, size_t length,
-                      struct area area, struct area rows, int at_end)
+                      struct pages sheets, struct pages rows, int at_end)
 {
     uint64_t refused = snellair_work_out(graph, length, NULL, 0);
     expect(snellair_check(graph, length, NULL, 0) == refused, name,
@@ -127,36 +65,20 @@ static void try_graph(const char *name, const uint8_t *graph, size_t length,
         return;
     }
     size_t sheet_size = sheet_length(graph, length);
-    permit(area, PROT_READ | PROT_WRITE);
-    uint8_t *sheet = place(area, sheet_size, at_end);
+    permit(sheets, PROT_READ | PROT_WRITE);
+    uint8_t *sheet = place(sheets, sheet_size, at_end);
     uint64_t verdict = snellair_work_out(graph, length, sheet, sheet_size);
-    permit(area, PROT_READ);
+    permit(sheets, PROT_READ);
     expect(snellair_check(graph, length, sheet, sheet_size) == verdict, name,
            "check does not answer as work out did");
     try_many(name, graph, length, sheet, sheet_size, verdict, rows, at_end);
 }
 
-/* Reads a graph file to where it is lent, and keeps it from being written. */
-static uint8_t *read_graph(const char *path, struct area area, int at_end,
-                           size_t *length)
-{
-    FILE *file = fopen(path, "rb");
-    if (file == NULL)
-        fail(path);
-    permit(area, PROT_READ | PROT_WRITE);
-    *length = fread(area.start, 1, area.size, file);
-    fclose(file);
-    uint8_t *graph = place(area, *length, at_end);
-    memmove(graph, area.start, *length);
-    permit(area, PROT_READ);
-    return graph;
-}
-
 int main(int argc, char **argv)
 {
-    struct area graphs = make_area(SNELLAIR_LONGEST_GRAPH);
-    struct area sheets = make_area(SNELLAIR_LONGEST_SHEET);
-    struct area rows = make_area(2 * sizeof(uint32_t));
+    struct pages graphs = make_pages(SNELLAIR_LONGEST_GRAPH);
+    struct pages sheets = make_pages(SNELLAIR_LONGEST_SHEET);
+    struct pages rows = make_pages(2 * sizeof(uint32_t));
     for (int i = 1; i < argc; i++)
         for (int at_end = 0; at_end < 2; at_end++) {
             size_t length;
