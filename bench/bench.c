@@ -12,9 +12,10 @@
 #include <time.h>
 
 enum operation {
+    SNELLAIR_QUEUED,
+    WORKLIST,
     SNELLAIR,
     SWEEPING,
-    WORKLIST,
     SNELLAIR_CHECK,
     PEER_CHECK,
     SNELLAIR_ONE_SHOT,
@@ -31,10 +32,12 @@ enum operation {
 enum { ROUNDS = 5, MANY = (int)SNELLAIR_MOST_SHEETS };
 
 static const double shortest = 20000; /* of one measurement, in microseconds */
+static const double longest = 1e6;    /* of what is measured in every round */
 
 struct subject {
     uint8_t graph[MOST_GRAPH_BYTES], sheet[MOST_SHEET_BYTES];
     uint8_t sheets[MANY * MOST_SHEET_BYTES]; /* the sheet, so many times */
+    uint8_t area[SNELLAIR_AREA_BYTES];
     size_t graph_len, sheet_len;
 };
 
@@ -61,6 +64,9 @@ static uint64_t check_many(const struct subject *s)
 static uint64_t operate(enum operation operation, struct subject *s)
 {
     switch (operation) {
+    case SNELLAIR_QUEUED:
+        return snellair_work_out_queued(s->graph, s->graph_len, s->sheet,
+                                        s->sheet_len, s->area, sizeof s->area);
     case SNELLAIR:
         return snellair_work_out(s->graph, s->graph_len, s->sheet,
                                  s->sheet_len);
@@ -151,19 +157,26 @@ static void measure(struct subject *s, enum operation first,
         times[o] = times_needed(o, s);
     for (unsigned round = 0; round < ROUNDS; round++)
         for (enum operation o = first; o <= last; o++)
-            taken[o][round] = time_of(o, s, times[o]) / times[o];
+            taken[o][round] = round > 0 && taken[o][0] > longest
+                                  ? taken[o][0]
+                                  : time_of(o, s, times[o]) / times[o];
     for (enum operation o = first; o <= last; o++) {
         qsort(taken[o], ROUNDS, sizeof(double), compare_doubles);
         median[o] = taken[o][ROUNDS / 2];
     }
 }
 
+static void write_graph(const struct draft *d, struct subject *s)
+{
+    s->graph_len = draft_write(d, s->graph);
+    s->sheet_len = sheet_bytes(draft_shape(d));
+}
+
 static void build_case(const struct bench_case *c, struct subject *s)
 {
     static struct draft d;
     c->build(&d);
-    s->graph_len = draft_write(&d, s->graph);
-    s->sheet_len = sheet_bytes(draft_shape(&d));
+    write_graph(&d, s);
 }
 
 static void measure_case(const struct bench_case *c, struct subject *s,
@@ -185,6 +198,11 @@ static struct goal work_out_goal = {1.2, 0, ""}, check_goal = {0.8, 0, ""};
 /* where Snellair's order takes twice the peer's sweeps */
 static const char random_graph[] = "any limit-size graph";
 static struct goal random_goal = {2.2, 0, ""};
+/* the queue against the peer's worklist; against Snellair's own sweeps, on the
+ * typical add-on and where they take longest */
+static struct goal queue_goal = {1.2, 0, ""}, addon_goal = {1, 0, ""},
+                   longest_goal = {0.01, 0, ""};
+static double longest_sweeping;
 
 static void note_ratio(struct goal *g, double ratio, const char *where)
 {
@@ -197,7 +215,7 @@ static void note_ratio(struct goal *g, double ratio, const char *where)
 /* Whether the goal is met. */
 static int print_goal(const char *column, const struct goal *g)
 {
-    printf("%-30s | %6.2f of at most %4.2f, %s\n", column, g->worst, g->most,
+    printf("%-30s | %7.4f of at most %4.2f, %s\n", column, g->worst, g->most,
            g->where);
     return g->worst <= g->most;
 }
@@ -208,7 +226,10 @@ static int print_goals(void)
     int work_out = print_goal("worst ratio, work out", &work_out_goal);
     int random = print_goal("", &random_goal);
     int check = print_goal("worst ratio, check", &check_goal);
-    return work_out && random && check;
+    int queue = print_goal("worst ratio, queue", &queue_goal);
+    int addon = print_goal("queue over sweeping", &addon_goal);
+    int longest = print_goal("", &longest_goal);
+    return work_out && random && check && queue && addon && longest;
 }
 
 /* Work out and check, by Snellair and by the peer. */
@@ -232,10 +253,36 @@ static void print_heading(const char *unit)
            "sweeping", "ratio", "worklist", "snellair", "peer", "ratio");
 }
 
+/* Snellair's queue against the peer's worklist, and against its own sweeps. */
+static void print_queue_row(const char *name, const double cost[OPERATIONS])
+{
+    double worklist = cost[SNELLAIR_QUEUED] / cost[WORKLIST];
+    double sweeping = cost[SNELLAIR_QUEUED] / cost[SNELLAIR];
+    printf("%-30s | %11.1f %11.1f %6.2f | %11.1f %8.4f\n", name,
+           cost[SNELLAIR_QUEUED], cost[WORKLIST], worklist, cost[SNELLAIR],
+           sweeping);
+    fflush(stdout);
+    note_ratio(&queue_goal, worklist, name);
+    if (strcmp(name, bench_cases[ADDON].name) == 0)
+        note_ratio(&addon_goal, sweeping, name);
+    if (cost[SNELLAIR] > longest_sweeping) {
+        longest_sweeping = cost[SNELLAIR];
+        longest_goal.worst = sweeping;
+        longest_goal.where = name;
+    }
+}
+
+static void print_queue_heading(const char *unit)
+{
+    printf("\n%-30s | %-30s | %-20s\n", unit, "with a queue", "by sweeping");
+    printf("%-30s | %11s %11s %6s | %11s %8s\n", "", "snellair", "worklist",
+           "ratio", "snellair", "ratio");
+}
+
 static void print_case(const struct bench_case *c, struct subject *s)
 {
     double us[OPERATIONS];
-    measure_case(c, s, SNELLAIR, PEER_CHECK, us);
+    measure_case(c, s, WORKLIST, PEER_CHECK, us);
     print_costs(c->name, us);
 }
 
@@ -254,16 +301,19 @@ static int operate_once(const char *number, const char *operation,
 /* The table of counts that were taken so, case by case, on standard input. */
 static int print_counts(void)
 {
+    static double count[BENCH_CASES][OPERATIONS];
     print_heading("thousands of instructions");
     for (unsigned i = 0; i < BENCH_CASES; i++) {
-        double count[OPERATIONS];
-        for (enum operation o = SNELLAIR; o <= PEER_CHECK; o++) {
-            if (scanf("%lf", &count[o]) != 1)
+        for (enum operation o = SNELLAIR_QUEUED; o <= PEER_CHECK; o++) {
+            if (scanf("%lf", &count[i][o]) != 1)
                 return 2;
-            count[o] /= 1000;
+            count[i][o] /= 1000;
         }
-        print_costs(bench_cases[i].name, count);
+        print_costs(bench_cases[i].name, count[i]);
     }
+    print_queue_heading("thousands of instructions");
+    for (unsigned i = 0; i < BENCH_CASES; i++)
+        print_queue_row(bench_cases[i].name, count[i]);
     return print_goals() ? 0 : 1;
 }
 
@@ -316,6 +366,43 @@ static void print_many(const struct bench_case *c, struct subject *s)
     fflush(stdout);
 }
 
+/* The one that is worst against the worklist, and the sum of them. */
+static void print_limit_graphs(struct subject *s)
+{
+    static struct draft d;
+    double us[OPERATIONS], worst[OPERATIONS], sum[OPERATIONS] = {0};
+    for (unsigned i = 0; i < LIMIT_GRAPHS; i++) {
+        build_limit_graph(&d, i);
+        write_graph(&d, s);
+        expect_same_answers(s, SNELLAIR_QUEUED, SNELLAIR, "limit-size graph");
+        measure(s, SNELLAIR_QUEUED, SNELLAIR, us);
+        for (enum operation o = SNELLAIR_QUEUED; o <= SNELLAIR; o++)
+            sum[o] += us[o];
+        if (i == 0 || us[SNELLAIR_QUEUED] * worst[WORKLIST] >
+                          worst[SNELLAIR_QUEUED] * us[WORKLIST])
+            memcpy(worst, us, sizeof us);
+    }
+    print_queue_row("limit-size graphs, worst of 20", worst);
+    print_queue_row("limit-size graphs, sum of 20", sum);
+}
+
+static void print_queued(const struct bench_case *c, struct subject *s)
+{
+    double us[OPERATIONS];
+    measure_case(c, s, SNELLAIR_QUEUED, SNELLAIR, us);
+    print_queue_row(c->name, us);
+}
+
+static void print_queue(struct subject *s)
+{
+    print_queue_heading("microseconds");
+    for (unsigned i = 0; i < BENCH_CASES; i++)
+        print_queued(&bench_cases[i], s);
+    for (unsigned i = 0; i < RING_CASES; i++)
+        print_queued(&ring_cases[i], s);
+    print_limit_graphs(s);
+}
+
 int main(int words, char **word)
 {
     static struct subject s;
@@ -337,5 +424,6 @@ int main(int words, char **word)
            "at most", "ratio", "peer", "ratio");
     for (unsigned i = 0; i < BENCH_CASES; i++)
         print_many(&bench_cases[i], &s);
+    print_queue(&s);
     return print_goals() ? 0 : 1;
 }

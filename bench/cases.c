@@ -109,6 +109,13 @@ static void build_against_table_order(struct draft *d)
     }
 }
 
+static void flow_in_ring(struct draft *d, const unsigned *order,
+                         unsigned nodes)
+{
+    for (unsigned i = 0; i < nodes; i++)
+        draft_flow(d, order[i], order[(i + 1) % nodes]);
+}
+
 /* Each time round spends one more of the stock, down to 0. */
 static void add_ring(struct draft *d, const unsigned order[MOST_NODES])
 {
@@ -116,8 +123,7 @@ static void add_ring(struct draft *d, const unsigned order[MOST_NODES])
     draft_draw(d, 0, 0, 0x0101);
     for (unsigned n = 1; n < MOST_NODES; n++)
         draft_node(d, 0, PLAIN);
-    for (unsigned i = 0; i < MOST_NODES; i++)
-        draft_flow(d, order[i], order[(i + 1) % MOST_NODES]);
+    flow_in_ring(d, order, MOST_NODES);
 }
 
 static void build_loop(struct draft *d)
@@ -249,6 +255,65 @@ static void build_repeated_recursion(struct draft *d)
     build_recursive(d, 255, 255);
 }
 
+/* First, middle, second, the one after the middle, ..: on such a way neither a
+ * sweep upwards nor one downwards gets far. */
+static unsigned zigzag(unsigned place, unsigned count)
+{
+    return place / 2 + (place % 2 == 0 ? 0 : (count + 1) / 2);
+}
+
+/* A draw, and calls of methods that only return. */
+static void build_ring_through_calls(struct draft *d)
+{
+    enum { CALLED = MOST_METHODS - 1, RING = MOST_NODES - CALLED };
+    unsigned order[RING];
+    start_full(d, MOST_METHODS);
+    draft_draw(d, 0, 0, 0x0101);
+    for (unsigned n = 1; n < RING; n++)
+        draft_callee(d, draft_call(d, 0, 255), 1 + n % CALLED);
+    for (unsigned m = 1; m <= CALLED; m++)
+        draft_node(d, m, RETURN);
+    for (unsigned i = 0; i < RING; i++)
+        order[i] = zigzag(i, RING);
+    flow_in_ring(d, order, RING);
+}
+
+/* Calls the method where an exception's way ends, and for what comes out there
+ * throws the next exception, mostly after a draw of another type. */
+static void add_turning_method(struct draft *d, unsigned m, unsigned end)
+{
+    unsigned first = draft_node(d, m, PLAIN), call = draft_call(d, m, 1);
+    draft_flow(d, first, call);
+    draft_callee(d, call, end);
+    for (unsigned e = 0; e < EXCEPTIONS; e++) {
+        unsigned caught = draft_throw(d, m, (e + 1) % EXCEPTIONS);
+        draft_flow(d, first, caught);
+        if (e < MOST_TYPES) {
+            unsigned drawn = draft_draw(d, m, e, 0x0101);
+            draft_flow(d, drawn, caught);
+            caught = drawn;
+        }
+        draft_catch(d, call, e, caught);
+    }
+}
+
+/* Each of eight exceptions leaves 50 methods one after the other, and then the
+ * next one does. The nodes that are left are calls that never return. */
+static void build_ring_through_exits(struct draft *d)
+{
+    enum { WAY = 50, OTHERS = MOST_METHODS - WAY };
+    start_full(d, MOST_METHODS);
+    add_turning_method(d, zigzag(0, WAY), zigzag(WAY - 1, WAY));
+    for (unsigned m = 1; m < WAY; m++)
+        draft_call(d, m, 1);
+    for (unsigned i = 1; i < WAY; i++)
+        draft_callee(d, d->entry[zigzag(i, WAY)], zigzag(i - 1, WAY));
+    while (d->nodes < MOST_NODES) {
+        unsigned m = WAY + d->nodes % OTHERS;
+        draft_callee(d, draft_call(d, m, 1), m);
+    }
+}
+
 /* The generator also makes graphs with calls to nobody. */
 static void build_limit(struct random *r, struct draft *d)
 {
@@ -260,6 +325,12 @@ static void build_limit(struct random *r, struct draft *d)
 static void build_random(struct draft *d)
 {
     struct random r = random_of(1, 1);
+    build_limit(&r, d);
+}
+
+void build_limit_graph(struct draft *d, unsigned number)
+{
+    struct random r = random_of(2, number);
     build_limit(&r, d);
 }
 
@@ -290,6 +361,11 @@ const struct bench_case bench_cases[BENCH_CASES] = {
     {"deep recursion", build_recursion},
     {"recursion with 255 repeats", build_repeated_recursion},
     {"any limit-size graph", build_random},
+};
+
+const struct bench_case ring_cases[RING_CASES] = {
+    {"ring of calls with 255 repeats", build_ring_through_calls},
+    {"ring through 400 exits", build_ring_through_exits},
 };
 
 const struct bench_case one_shot_case = {"one-shot, limit-size graph that fits",
