@@ -32,6 +32,7 @@ static const struct meaning answers[] = {
     [SNELLAIR_UNFIT] = {"the add-on asks in another way", "node"},
     [SNELLAIR_BAD_PARENT] = {"a parent is neither lower nor 255", "kind"},
     [SNELLAIR_NO_CALL_ROW] = {"a call has no row in the calls", "node"},
+    [SNELLAIR_BAD_AREA] = {"the area has the wrong length", NULL},
     [SNELLAIR_BAD_ROW] = {"the sheets or the row have the wrong length", NULL},
 };
 
