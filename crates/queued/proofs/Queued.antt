@@ -13,7 +13,7 @@ use Rattle.graph.specs.Judgement.{shapeOf}
 use Rattle.layout.specs.declared.Shape.{Shape}
 use Rattle.layout.specs.Layout.{sheetBytes}
 use Rattle.sheet.specs.Write.{blanked}
-use Rattle.permit.specs.Check.{verdictOf}
+use Rattle.accept_draws.specs.Draws.{verdictOf}
 use Rattle.engine_queue.specs.Queue.{Settled}
 use Rattle.work.specs.Meaning.{WorksOut}
 use Rattle.work.proofs.Meaning.{verdict}

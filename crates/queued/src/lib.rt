@@ -25,7 +25,7 @@ fn of_passed(f: &[u8], t: Tables, x: Shape, s: &mut [u8], area: &mut [u8]) -> An
         return Answer::BadArea;
     }
     engine_queue::settle(f, t, x, s, area);
-    permit::verdict(f, t, x, s)
+    accept_draws::verdict(f, t, x, s)
 }
 
 // For a file that has been judged, so that whoever lends the sheet judges it once.

@@ -6,6 +6,7 @@ use borrow.Author.Needs.{needs}
 use Rattle.words.proofs.Tests.{and-l, and-r}
 use Rattle.effect.specs.Six.{effectOf}
 use Rattle.effect.specs.Whole.{oneIf, thenOf}
+use Rattle.nodes.proofs.Cases.{own-step-means}
 use Rattle.sheet.specs.Read.{effectAt}
 use Rattle.demand.specs.Demand.{steppedIn}
 use Rattle.demand.proofs.stepped.Statement.{statement}
@@ -25,7 +26,7 @@ returns c =
     let number = step .before .before .before .before in
     let at = number .before in
     let a = at .before .before .before .args in
-    let e = (λ i. effectOf (λ k. oneIf (eqb k (number .node-number .ensures .0 i)) (step .own-step .result))) ∙ sym (step .own-step .ensures) in
+    let e = (λ i. effectOf (λ k. oneIf (eqb k (number .node-number .ensures .0 i)) (step .own-step .result))) ∙ sym (own-step-means (now (a .f)) (a .t) (a .n) (step .own-step .ensures)) in
     c .stepped .ensures ∙ (λ i. thenOf (effectAt (now (a .s)) (a .x .types) (at .node-at .ensures i)) (e i))
 
 returns-2 : tie.Need-returns-2
