@@ -5,7 +5,11 @@ use rounds::Rounds;
 use tables::Table;
 use tables::Tables;
 ghost use mathlib.Core.Path.{_≡_};
-ghost use Prim.Native.Nat.{_<_};
+ghost use mathlib.Core.Bool.{true};
+ghost use Prim.Native.Nat.{_+_, _*_, _<_, _≤_};
+ghost use lib.ListN.{length};
+ghost use Rattle.tables.specs.Fields.{nodeNumber};
+ghost use Rattle.layout.specs.Layout.{effectSize, nodeAt};
 ghost use Rattle.effect.specs.Whole.{failsOf};
 ghost use Rattle.sheet.specs.Read.{effectAt};
 ghost use Rattle.sheet.specs.Under.{effectUnder};
@@ -73,15 +77,23 @@ pub fn stepped(f: &[u8], t: Tables, x: Shape, s: &[u8], n: u16) -> Effect
     effect::then(node_effect(s, x, n), nodes::step(f, t, n))
 }
 
-// Rule 3: the lowest type at which the effect of the block at v is not at most that, or 6. Blocks that lie in the sheet are compared where
-// they stand, and the step is taken for its own type alone.
+// Rule 3: the block at v and that of node n lie in the sheet, and the file has the type of its step: they can be compared where they stand.
+fn in_place(f: &[u8], t: Tables, x: Shape, s: &[u8], n: u16, v: usize) -> bool
+    ensures { λ r. ⌜ (r ≡ true → (x .types ≤ 6) × (nodeNumber (now (f .entry)) t n < x .types) × (2 * (v + effectSize (x .types)) ≤ length (now (s .entry))) × (2 * (nodeAt x n + effectSize (x .types)) ≤ length (now (s .entry)))) ⌝ }
+{
+    let blocks = sheet::lies_in(s, x.types, v, 4)
+        & sheet::lies_in(s, x.types, layout::node_at(x, n), 4);
+    blocks & (tables::node_number(f, t, n) < x.types)
+}
+
+// Rule 3: the lowest type at which the effect of the block at v is not at most that, or 6. Here and below the loop over the types is called
+// with numbers alone: a call with the file's tables would copy them for each row.
 pub fn stepped_fails(f: &[u8], t: Tables, x: Shape, s: &[u8], n: u16, v: usize) -> usize
     ensures { λ r. ⌜ r ≡ failsOf (effectAt (now (s .entry)) (x .types) v) (steppedIn (now (f .entry)) t x (now (s .entry)) n) ⌝ }
 {
-    let w = layout::node_at(x, n);
-    let own = tables::node_number(f, t, n);
-    let blocks = sheet::lies_in(s, x.types, v, 4) & sheet::lies_in(s, x.types, w, 4);
-    if blocks & (own < x.types) {
+    if in_place(f, t, x, s, n, v) {
+        let w = layout::node_at(x, n);
+        let own = tables::node_number(f, t, n);
         let step = nodes::own_step(f, t, n);
         return sheet_compare::stepped_fails(s, x.types, v, w, own as usize, step);
     }
@@ -92,10 +104,13 @@ pub fn stepped_fails(f: &[u8], t: Tables, x: Shape, s: &[u8], n: u16, v: usize) 
 pub fn stepped_met(f: &[u8], t: Tables, x: Shape, s: &[u8], n: u16, v: usize) -> bool
     ensures { λ r. ⌜ r ≡ effectUnder (now (s .entry)) x v (steppedIn (now (f .entry)) t x (now (s .entry)) n) ⌝ }
 {
-    if sheet::is_marked(s, v) {
-        return stepped_fails(f, t, x, s, n, v) == 6;
+    if in_place(f, t, x, s, n, v) {
+        let w = layout::node_at(x, n);
+        let own = tables::node_number(f, t, n);
+        let step = nodes::own_step(f, t, n);
+        return sheet_compare::stepped_met(s, x, v, w, own as usize, step);
     }
-    false
+    sheet_compare::effect_met(s, x, v, stepped(f, t, x, s, n))
 }
 
 // Rules 7 to 10, of call row k.

@@ -139,3 +139,14 @@ pub fn effect_met(s: &[u8], x: Shape, v: usize, e: Effect) -> bool
     }
     false
 }
+
+// The block at v has mark 1 and its effect is at most that at w, then y for the type n. Both blocks lie in the sheet.
+pub fn stepped_met(s: &[u8], x: Shape, v: usize, w: usize, n: usize, y: One) -> bool
+    requires { ⌜ (x .types ≤ 6) × (n < x .types) × (2 * (v + effectSize (x .types)) ≤ length (now s)) × (2 * (w + effectSize (x .types)) ≤ length (now s)) ⌝ }
+    ensures { λ r. ⌜ r ≡ effectUnder (now (s .entry)) x v (thenOf (effectAt (now (s .entry)) (x .types) w) (effectOf (λ k. oneIf (eqb k n) y))) ⌝ }
+{
+    if sheet::is_marked(s, v) {
+        return stepped_fails(s, x.types, v, w, n, y) == 6;
+    }
+    false
+}

@@ -1,10 +1,7 @@
 use mathlib.Core.Path.{sym, ap, _∙_}
-use mathlib.Core.Bool.{_&&_}
 use denote.Ref.{now}
 use lib.Dec.{eqb}
-use borrow.Author.Tests.{ltb-true}
 use borrow.Author.Needs.{needs}
-use Rattle.words.proofs.Tests.{and-l, and-r}
 use Rattle.effect.specs.Six.{effectOf}
 use Rattle.effect.specs.Whole.{oneIf, thenOf, failsOf}
 use Rattle.nodes.proofs.Cases.{own-step-means}
@@ -15,20 +12,19 @@ use Rattle.demand.proofs.stepped_fails.Tie as tie
 
 stepped-fails-requires : tie.Need-stepped-fails-requires
 stepped-fails-requires c κs =
-    let test = c .before in
-    let second = test .before .before in
-    let blocks = and-l _ _ (test .if1 .taken) in
-    let there = second .before .lies-in .ensures (and-l _ _ blocks) in
-    let here = second .lies-in2 .ensures (and-r (second .before .lies-in .result) _ blocks) in
-    (there .0, ltb-true _ _ (and-r (second .before .lies-in .result && second .lies-in2 .result) _ (test .if1 .taken)), there .1, here .1)
+    let number = c .before in
+    let at = number .before in
+    let then = at .before in
+    let p = then .before .in-place .ensures (then .if1 .taken) in
+    (p .0, rw (number .node-number .ensures .0) (p .1), p .2, rw (at .node-at .ensures) (p .3))
 
 returns : tie.Need-returns
 unfolding steppedIn
 returns c =
     let step = c .before in
-    let number = step .before .before .before .before .before in
+    let number = step .before in
     let at = number .before in
-    let a = at .before .before .before .args in
+    let a = at .before .before .before .before .before .args in
     let e = (λ i. effectOf (λ k. oneIf (eqb k (number .node-number .ensures .0 i)) (step .own-step .result))) ∙ sym (own-step-means (now (a .f)) (a .t) (a .n) (step .own-step .ensures)) in
     c .stepped-fails .ensures ∙ (λ i. failsOf (effectAt (now (a .s)) (a .x .types) (a .v)) (thenOf (effectAt (now (a .s)) (a .x .types) (at .node-at .ensures i)) (e i)))
 
@@ -39,7 +35,6 @@ pub stepped-fails-spec : {M : Type 1} → statement M
 stepped-fails-spec =
     tie.close
     (tie.spec
-    (λ c κs. search needs)
     (λ c κs. search needs)
     (λ c κs. search needs)
     (λ c κs. search needs)
