@@ -3,7 +3,7 @@
 use Prim.Native.Nat.{ℕ, _+_, _≤_, _<_}
 use mathlib.Core.Path.{_≡_, refl, sym, ap, subst, _∙_}
 use mathlib.Core.Logic.{_⊎_, inl, inr, ⊎-elim}
-use mathlib.Core.Bool.{Bool, true, false, _||_, true≢false, false≢true}
+use mathlib.Core.Bool.{Bool, true, false, _&&_, _||_, true≢false, false≢true}
 use mathlib.Core.List.{List}
 use native.Mathlib.Decide.{ℕ-discrete, decLt}
 use native.Mathlib.Omega.{arith}
@@ -17,10 +17,10 @@ use Rattle.tables.specs.declared.Table.{Table}
 use Rattle.tables.specs.declared.Table.the-variants.{Trailer, Methods, Nodes, Flow, Calls, Parents, Catches, Opening}
 use Rattle.tables.specs.Rows.{rowsOf}
 use Rattle.tables.specs.Kinds.{drawKind, callKind, returnKind, throwKind}
-use Rattle.tables.specs.Fields.{nodeKind, nodeMethod, flowFrom, callNode, callMethod}
+use Rattle.tables.specs.Fields.{nodeKind, nodeMethod, flowFrom, flowTo, callNode, callMethod}
 use Rattle.refuse.proofs.Fit.{flow-fit, call-fit}
 use Rattle.rows.specs.Rows.{flowOf, callsOf}
-use Rattle.rows.proofs.Stretches.{in-stretch}
+use Rattle.rows.proofs.Stretches.{in-stretch, of-stretch}
 use Rattle.graph.proofs.Passed.{judged}
 use Rattle.layout.specs.declared.Shape.{Shape}
 use Rattle.demand.specs.Demand.{turned, goesIn}
@@ -33,8 +33,8 @@ use Rattle.engine_row.specs.Lowers.{sheetOf, lowers}
 use Rattle.engine_row.proofs.Inside.{limit, sorted, method-of, call-node, call-method}
 use Rattle.engine_flags.specs.Flags.{Waits, Woken, Awake, RowWaits, Spread, Able, Clear}
 use Rattle.engine_flags.proofs.Flags.{clear-more}
-use Rattle.engine_queue.proofs.Step.{row-wrote, row-idle}
-use Rattle.engine_queue.specs.Queue.{Met, Queue, Moved, RowMoved, StretchMoved, NodeMet, NodeMoved, Visited, Passing, Quiet, Round, Entered, Settled}
+use Rattle.engine_queue.proofs.Step.{row-wrote, row-idle, row-flow}
+use Rattle.engine_queue.specs.Queue.{Met, NodeStays, FlowMoved, Leaves, Queue, Moved, RowMoved, StretchMoved, NodeMet, NodeMoved, Visited, Passing, Quiet, Round, Entered, Settled}
 
 -- rows of these tables ask nothing themselves
 abbrev Silent : Table → Type 0
@@ -69,12 +69,30 @@ module _ {f : List ℕ} {t : Tables} {x : Shape} where
 
   -- one row more of a stretch
   pub stretch-none : {s a : List ℕ} (table : Table) (j : ℕ) → Queue f t x s a → StretchMoved f t x table j j s a s a false
-  stretch-none table j Q = record { moved = moved-none Q; met = λ e i l h. absurd (omega arith) }
+  stretch-none table j Q = record { moved = moved-none Q; met = λ e i l h. absurd (omega arith); flow = λ e n l h. (λ v p q. refl, λ i p q. absurd (omega arith)) }
 
-  pub stretch-more : {s a r b q c : List ℕ} (table : Table) {l k : ℕ} (v w : Bool) → StretchMoved f t x table l k s a r b v → RowMoved f t x table k r b q c w
+  pub stretch-more : {s a r b q c : List ℕ} (table : Table) {l k : ℕ} (v w : Bool) → l ≤ k → StretchMoved f t x table l k s a r b v → RowMoved f t x table k r b q c w
       → StretchMoved f t x table l (k + 1) s a q c (v || w)
-  stretch-more {s} {a} {r} {b} {q} {c} table {l} {k} v w m n = record { moved = moved-next v w (m .moved) (n .moved); met = λ e i p h. met v w m n e i p h }
+  stretch-more {s} {a} {r} {b} {q} {c} table {l} {k} v w d m n = record { moved = moved-next v w (m .moved) (n .moved); met = λ e i p h. met v w m n e i p h; flow = flow }
     where
+      flow : table ≡ Flow → (i : ℕ) → i < t .nodes → ((j : ℕ) → l ≤ j → j < k + 1 → Leaves f t x i j) → NodeStays f t x s q i × ((j : ℕ) → l ≤ j → j < k + 1 → Met f t x q Flow j)
+      flow e i u h = (
+        λ z p o. before .0 z p o ∙ same z p o,
+        λ j p o. elim (decLt j k) [
+          | yes g ↦ step .kept j (h j p (omega arith) .0) (rw (h j p (omega arith) .1) same) (before .1 j p g)
+          | no g ↦ let c : k ≡ j = omega arith in subst (λ y. Met f t x q Flow y) c (step .own (rw (h k d (omega arith) .1) same))
+        ],
+      )
+        where
+          before : NodeStays f t x s r i × ((j : ℕ) → l ≤ j → j < k → Met f t x r Flow j)
+          before = m .flow e i u (λ j p o. h j p (omega arith))
+
+          step : FlowMoved f t x k r q
+          step = n .flow e
+
+          same : NodeStays f t x r q i
+          same = step .apart i u (h k d (omega arith) .2)
+
       met : (v w : Bool) → StretchMoved f t x table l k s a r b v → RowMoved f t x table k r b q c w → (v || w) ≡ false → (i : ℕ) → l ≤ i → i < k + 1 → Met f t x s table i
       met true w m n e i p h = absurd (true≢false e)
       met false true m n e i p h = absurd (true≢false e)
@@ -240,7 +258,7 @@ module _ {f : List ℕ} {t : Tables} {x : Shape} where
     pub row-true : {r b : List ℕ} (w : Bool) → w ≡ true → (r, w) ≡ rowWalk f t x sheetOf (lowers x) table k (s, false) → Woken a b → RowWaits f t b table k → RowMoved f t x table k s a r b true
     row-true {r} w e h v g =
         let z = row-wrote Q table k l (subst (λ y. (r, y) ≡ rowWalk f t x sheetOf (lowers x) table k (s, false)) e h) g v in
-        record { moved = record { queue = z .0; falls = λ y. z .1; idle = λ y. absurd (true≢false y) }; met = λ y. absurd (true≢false y) }
+        record { moved = record { queue = z .0; falls = λ y. z .1; idle = λ y. absurd (true≢false y) }; met = λ y. absurd (true≢false y); flow = row-flow Q table k l w h }
 
     pub row-false : {r : List ℕ} (w : Bool) → w ≡ false → (r, w) ≡ rowWalk f t x sheetOf (lowers x) table k (s, false) → RowMoved f t x table k s a r a false
     row-false {r} w e h =
@@ -248,6 +266,7 @@ module _ {f : List ℕ} {t : Tables} {x : Shape} where
         record {
           moved = record { queue = subst (λ y. Queue f t x y a) (sym (z .0)) Q; falls = λ y. absurd (false≢true y); idle = λ y. (z .0, refl) };
           met = λ y. z .1;
+          flow = row-flow Q table k l w h;
         }
 
   -- the rows of node n, by its kind
@@ -262,16 +281,6 @@ module _ {f : List ℕ} {t : Tables} {x : Shape} where
 
     no-calls : (nodeKind f t n ≡ callKind → ⊥) → (k : ℕ) → k < t .calls → callNode f t k ≡ n → Met f t x s Calls k
     no-calls h k l e d p = absurd (h (ap (nodeKind f t) (sym e) ∙ call-fit f t k (judged f t (Q .ready .passed) .calls k l) .kind))
-
-    pub node-flow : {r b : List ℕ} (w : Bool) → nodeKind f t n < callKind → StretchMoved f t x Flow (flowOf f t n .from) (flowOf f t n .to) s a r b w → NodeMoved f t x n s a r b w
-    node-flow w h m = record {
-      moved = m .moved;
-      met = λ e. record {
-        flow = λ k l q. let i = in-stretch f t Flow (sorted (Q .ready) Flow) n k l q in m .met e k (i .0) (i .1);
-        node = no-end (omega arith);
-        calls = no-calls (λ z. omega arith);
-      };
-    }
 
     pub node-calls : {r b : List ℕ} (w : Bool) → nodeKind f t n ≡ callKind → StretchMoved f t x Calls (callsOf f t n .from) (callsOf f t n .to) s a r b w → NodeMoved f t x n s a r b w
     node-calls w h m = record {
@@ -288,6 +297,44 @@ module _ {f : List ℕ} {t : Tables} {x : Shape} where
       moved = m .moved;
       met = λ e. record { flow = λ k l q. no-flow (omega arith) k q; node = m .met e; calls = no-calls (λ z. omega arith) };
     }
+
+  -- A plain node, a grant or a draw asks by its flow rows alone.
+  plain-met : {r b : List ℕ} (n : ℕ) → nodeKind f t n < callKind → Queue f t x r b → ((k : ℕ) → flowOf f t n .from ≤ k → k < flowOf f t n .to → Met f t x r Flow k) → NodeMet f t x r n
+  plain-met n h q m = record {
+    flow = λ k l e. let i = in-stretch f t Flow (sorted (q .ready) Flow) n k l e in m k (i .0) (i .1);
+    node = no-end q n (omega arith);
+    calls = no-calls q n (λ z. omega arith);
+  }
+
+  module _ {s a r b : List ℕ} (n : ℕ) (l : n < t .nodes) (h : nodeKind f t n < callKind) (w : Bool)
+      (m : StretchMoved f t x Flow (flowOf f t n .from) (flowOf f t n .to) s a r b w) where
+    -- it waits on where it wrote something and a row leads back to it
+    pub plain-waits : w ≡ true → Visited f t x n s a r b true
+    plain-waits e = record { queue = m .moved .queue; falls = λ y. m .moved .falls e; idle = λ y. absurd (true≢false y) }
+
+    cleared : NodeMet f t x r n → Visited f t x n s a r (set b n 0) w
+    cleared met =
+        let q = m .moved .queue in
+        record {
+          queue = node-cleared n l q met;
+          falls = m .moved .falls;
+          idle = λ e.
+              let z = m .moved .idle e in
+              (z .0, getD-set-same b n 0 0 (omega (arith, q .wide, limit (q .ready) .nodes)), λ i ne. getD-set-other b n i 0 0 ne ∙ ap (λ v. getD v i 0) (z .1));
+        }
+
+    -- and else waits no longer
+    pub plain-done : (back : Bool) → (back ≡ false → (j : ℕ) → flowOf f t n .from ≤ j → j < flowOf f t n .to → flowTo f t j ≡ n → ⊥) → (w && back) ≡ false → Visited f t x n s a r (set b n 0) w
+    plain-done back g e = go w back e m g
+      where
+        go : (v u : Bool) → (v && u) ≡ false → StretchMoved f t x Flow (flowOf f t n .from) (flowOf f t n .to) s a r b v
+            → (u ≡ false → (j : ℕ) → flowOf f t n .from ≤ j → j < flowOf f t n .to → flowTo f t j ≡ n → ⊥) → Visited f t x n s a r (set b n 0) w
+        go true true e p g = absurd (true≢false e)
+        go true false e p g =
+            cleared (plain-met n h (p .moved .queue) (p .flow refl n l (λ j o u.
+            let z = of-stretch f t Flow (sorted (p .moved .queue .ready) Flow) n j (o, u) in (z .0, z .1, g refl j o u)) .1))
+        go false u e p g =
+            cleared (plain-met n h (p .moved .queue) (λ j o v. subst (λ y. Met f t x y Flow j) (sym (p .moved .idle refl .0)) (p .met refl j o v)))
 
   -- node n is visited
   module _ {s a r b : List ℕ} (n : ℕ) (l : n < t .nodes) (w : Bool) (m : NodeMoved f t x n s a r b w) where

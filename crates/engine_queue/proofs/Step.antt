@@ -30,7 +30,7 @@ use Rattle.nodes.specs.Nodes.{openingIn}
 use Rattle.sheet.specs.Read.{SameWords}
 use Rattle.effect.specs.declared.Effect.{Effect}
 use Rattle.demand.specs.Demand.{nodeEffect, calledIn, thrownIn}
-use Rattle.demand.specs.Walk.{Ask, of-effect, of-stock, blockOf, meets, rowWalk}
+use Rattle.demand.specs.Walk.{Ask, of-effect, of-stock, blockOf, meets, flowWalk, rowWalk}
 use Rattle.demand.proofs.Asks.{LeavingAsks, to-handler, to-exit, CallAsks, after-call, into-call, from-call, RowAsks, at-entry, along-flow, at-return, at-throw, of-call, Asks, at-start, of-row}
 use Rattle.demand.proofs.Keeps.{own-keeps}
 use Rattle.demand.proofs.Shows.{row-shows}
@@ -39,11 +39,11 @@ use Rattle.engine_row.specs.Ready.{Ready}
 use Rattle.engine_row.specs.Lowers.{State, sheetOf, wroteOf, loweredTo, lowers}
 use Rattle.engine_row.proofs.Brought.{Brought, asks-brought}
 use Rattle.engine_row.proofs.Done.{brought-done, done-next}
-use Rattle.engine_row.proofs.Kept.{Placed, effect-at, stock-at, placed, others-same, met-kept}
+use Rattle.engine_row.proofs.Kept.{Placed, effect-at, stock-at, placed, others-same, met-kept, met-own}
 use Rattle.engine_row.proofs.Still.{Wrote, Still, stay, hit, step}
 use Rattle.engine_row.proofs.Inside.{still-ready}
 use Rattle.engine_flags.specs.Flags.{Waits, Woken, Awake, AllWait, LeavesWait, EndWaits, CallWaits, RowWaits}
-use Rattle.engine_queue.specs.Queue.{Met, Queue}
+use Rattle.engine_queue.specs.Queue.{Met, Queue, NodeStays, FlowMoved}
 use Rattle.engine_queue.proofs.Stays.{NodeSame, ExitSame, MethodSame, RowSame, stays}
 
 -- all of the first n, or the other thing
@@ -223,6 +223,38 @@ module _ (f : List ℕ) (pass : judgeOf f ≡ Pass) where
     row-or Catches k u = inl tt
     row-or Opening k u = inl tt
 
+  -- a flow row
+  module _ (k : ℕ) (l : k < t .flows) (s : List ℕ) (G : Good f pass s) where
+    abbrev left : List ℕ
+    left = sheetOf (walked Flow k s)
+
+    flow-at : (r q : List ℕ) {d : Ask} → RowAsks f t x r q Flow k d → blockOf d ≡ nodeAt x (flowTo f t k)
+    flow-at r q (along-flow i h) = refl
+
+    flow-apart : (n : ℕ) → n < t .nodes → (flowTo f t k ≡ n → ⊥) → NodeStays f t x s left n
+    flow-apart n u ne =
+        ⊎-elim (λ h. subst (λ v. SameWords s left v (effectSize (x .types))) (block-node x n) (subst (SameWords s left (blockAt x (10 * t .methods + n))) (node-size x n) h))
+        (λ z.
+        let e = block-one x (10 * t .methods + flowTo f t k) (10 * t .methods + n) (block-node x (flowTo f t k) ∙ sym (flow-at (z .1 .0) (z .1 .1) (z .1 .2)) ∙ placed-at (z .2)) in
+        absurd (ne (omega arith))) (row-step Flow k l s G .same (10 * t .methods + n) (omega arith))
+
+    flow-kept : (i : ℕ) → i < t .flows → NodeStays f t x s left (flowFrom f t i) → Met f t x s Flow i → Met f t x left Flow i
+    flow-kept i u h m d q =
+        let asked = stays f t x s left Flow i h q in
+        row-step Flow k l s G .met d (asks-brought f pass s s G G (of-row Flow i d u asked)) (m d asked)
+
+    flow-met : {d : Ask} → RowAsks f t x s s Flow k d → Brought f pass d → meets x left d ≡ true
+    unfolding flowWalk lowers
+    flow-met (along-flow i q) b = let p = placed f pass b in rw q (met-own f pass s G (p .0) (p .1) (p .2))
+
+    flow-own : NodeStays f t x s left (flowFrom f t k) → Met f t x left Flow k
+    flow-own h d q =
+        let asked = stays f t x s left Flow k h q in
+        flow-met asked (asks-brought f pass s s G G (of-row Flow k d l asked))
+
+    flow-left : FlowMoved f t x k s left
+    flow-left = record { apart = flow-apart; kept = flow-kept; own = flow-own }
+
   awake-kept : {a b : List ℕ} → Woken a b → (table : Table) (k : ℕ) → Awake f t a table k → Awake f t b table k
   awake-kept w Trailer k h = h
   awake-kept w Methods k h = h
@@ -271,6 +303,11 @@ module _ (f : List ℕ) (s a : List ℕ) (Q : Queue f (tablesOf f) (shapeOf (tab
       met d h false m =
           absurd (true≢false (sym (row-shows f u z sheetOf (lowers z) s (Wrote z s) (Still z s) (λ y q. q .0) (stay z s) (step z s) l h (hit z s d m) (s, false) (inr (refl, refl))) ∙ sym (ap wroteOf e)))
 
+  own-flow : (r : List ℕ) (w : Bool) → (r, w) ≡ rowWalk f u z sheetOf (lowers z) table k (s, false) → table ≡ Flow → FlowMoved f u z k s r
+  own-flow r w e g =
+      let h : (r, w) ≡ rowWalk f u z sheetOf (lowers z) Flow k (s, false) = subst (λ y. (r, w) ≡ rowWalk f u z sheetOf (lowers z) y k (s, false)) g e in
+      subst (FlowMoved f u z k s) (sym (ap sheetOf h)) (flow-left f (Q .passed) k (subst (λ y. k < rowsOf u y) g l) s (Q .good))
+
 -- and of tables and a shape that are the file's own
 pub own : {f : List ℕ} {t : Tables} {x : Shape} {s : List ℕ} → Ready f t x s → (P : Tables → Shape → Type 0) → P (tablesOf f) (shapeOf (tablesOf f)) → P t x
 own ready P p = subst (P _) (sym (ready .shaped)) (subst (λ y. P y (shapeOf y)) (sym (ready .own)) p)
@@ -286,3 +323,8 @@ module _ {f : List ℕ} {t : Tables} {x : Shape} {s a : List ℕ} (Q : Queue f t
   row-idle {r} =
       own (Q .ready) (λ y z. Queue f y z s a → k < rowsOf y table → (r, false) ≡ rowWalk f y z sheetOf (lowers z) table k (s, false) → (r ≡ s) × Met f y z s table k)
       (λ q i. own-idle f s a q table k i r) Q l
+
+  pub row-flow : {r : List ℕ} (w : Bool) → (r, w) ≡ rowWalk f t x sheetOf (lowers x) table k (s, false) → table ≡ Flow → FlowMoved f t x k s r
+  row-flow {r} w =
+      own (Q .ready) (λ y z. Queue f y z s a → k < rowsOf y table → (r, w) ≡ rowWalk f y z sheetOf (lowers z) table k (s, false) → table ≡ Flow → FlowMoved f y z k s r)
+      (λ q i. own-flow f s a q table k i r w) Q l

@@ -10,11 +10,12 @@ use Rattle.tables.specs.declared.Tables.{Tables}
 use Rattle.tables.specs.declared.Table.{Table}
 use Rattle.tables.specs.declared.Table.the-variants.{Methods, Nodes, Flow, Calls}
 use Rattle.tables.specs.Rows.{rowsOf}
-use Rattle.tables.specs.Fields.{flowFrom, callNode}
+use Rattle.tables.specs.Fields.{flowFrom, flowTo, callNode}
 use Rattle.graph.specs.Judge.{judgeOf}
 use Rattle.nodes.specs.Nodes.{openingIn}
 use Rattle.layout.specs.declared.Shape.{Shape}
-use Rattle.layout.specs.Layout.{methodAt}
+use Rattle.layout.specs.Layout.{effectSize, methodAt, nodeAt}
+use Rattle.sheet.specs.Read.{SameWords}
 use Rattle.demand.specs.Walk.{Ask, of-stock, meets}
 use Rattle.demand.specs.Demand.{turned}
 use Rattle.demand.proofs.Asks.{RowAsks, Asks}
@@ -26,6 +27,10 @@ module _ (f : List ℕ) (t : Tables) (x : Shape) where
   -- the sheet meets what row k asks
   abbrev pub Met : List ℕ → Table → ℕ → Type 0
   Met s table k = (a : Ask) → RowAsks f t x s s table k a → meets x s a ≡ true
+
+  -- node n stands in r as in s
+  abbrev pub NodeStays : List ℕ → List ℕ → ℕ → Type 0
+  NodeStays s r n = SameWords s r (nodeAt x n) (effectSize (x .types))
 
   pub record Queue (s a : List ℕ) : Type 0 where
     pub ready : Ready f t x s
@@ -41,14 +46,26 @@ module _ (f : List ℕ) (t : Tables) (x : Shape) where
     pub falls : wrote ≡ true → height x r < height x s
     pub idle : wrote ≡ false → (r ≡ s) × (b ≡ a)
 
+  -- From s to r flow row k was done: only the node that it leads to may have changed, and a row whose own node stands as it was has what it had.
+  pub record FlowMoved (k : ℕ) (s r : List ℕ) : Type 0 where
+    pub apart : (n : ℕ) → n < t .nodes → (flowTo f t k ≡ n → ⊥) → NodeStays s r n
+    pub kept : (i : ℕ) → i < t .flows → NodeStays s r (flowFrom f t i) → Met s Flow i → Met r Flow i
+    pub own : NodeStays s r (flowFrom f t k) → Met r Flow k
+
+  -- flow row k leaves node n and does not lead back to it
+  abbrev pub Leaves : ℕ → ℕ → Type 0
+  Leaves n k = (k < t .flows) × (flowFrom f t k ≡ n) × (flowTo f t k ≡ n → ⊥)
+
   -- the same of row k, of the rows of a stretch, of node n: where nothing was written, all that they ask was met
   pub record RowMoved (table : Table) (k : ℕ) (s a r b : List ℕ) (wrote : Bool) : Type 0 where
     pub moved : Moved s a r b wrote
     pub met : wrote ≡ false → Met s table k
+    pub flow : table ≡ Flow → FlowMoved k s r
 
   pub record StretchMoved (table : Table) (from to : ℕ) (s a r b : List ℕ) (wrote : Bool) : Type 0 where
     pub moved : Moved s a r b wrote
     pub met : wrote ≡ false → (j : ℕ) → from ≤ j → j < to → Met s table j
+    pub flow : table ≡ Flow → (n : ℕ) → n < t .nodes → ((j : ℕ) → from ≤ j → j < to → Leaves n j) → NodeStays s r n × ((j : ℕ) → from ≤ j → j < to → Met r Flow j)
 
   pub record NodeMet (s : List ℕ) (n : ℕ) : Type 0 where
     pub flow : (k : ℕ) → k < t .flows → flowFrom f t k ≡ n → Met s Flow k

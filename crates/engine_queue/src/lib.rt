@@ -6,7 +6,10 @@ use tables::Tables;
 ghost use mathlib.Core.Path.{_≡_};
 ghost use Prim.Native.Nat.{ℕ, _<_, _≤_};
 ghost use lib.ListN.{length};
+ghost use mathlib.Core.Bool.{false};
 ghost use Rattle.tables.specs.Rows.{rowsOf};
+ghost use Rattle.tables.specs.Kinds.{drawKind, callKind};
+ghost use Rattle.tables.specs.Fields.{nodeKind, flowTo};
 ghost use Rattle.sheet.specs.Write.{blanked};
 ghost use Rattle.engine_row.specs.Ready.{Ready};
 ghost use Rattle.engine_queue.specs.Queue.{Queue, RowMoved, StretchMoved, NodeMoved, Visited, Passing, Round, Entered, Settled};
@@ -49,26 +52,56 @@ fn each(
     wrote
 }
 
-// The rows of node n: the flow rows of a plain node, a grant or a draw, the call rows of a call, its own row of a return or a throw.
+// The rows of a node n that is no plain node, grant or draw: the call rows of a call, its own row of a return or a throw.
 fn of_node(f: &[u8], t: Tables, x: Shape, s: &mut [u8], area: &mut [u8], n: u16) -> bool
-    requires { ⌜ Queue (now f) t x (now s) (now area) × (n < t .nodes) ⌝ }
+    requires { ⌜ Queue (now f) t x (now s) (now area) × (n < t .nodes) × (drawKind < nodeKind (now f) t n) ⌝ }
     ensures { λ r. ⌜ NodeMoved (now (f .entry)) t x n (now (s .entry)) (now (area .entry)) (now (s .exit)) (now (area .exit)) r ⌝ }
 {
-    let kind = tables::node_kind(f, t, n);
-    if kind < tables::CALL {
-        return each(f, t, x, s, area, Table::Flow, rows::flow_of(f, t, n));
-    }
-    if kind == tables::CALL {
+    if tables::node_kind(f, t, n) == tables::CALL {
         return each(f, t, x, s, area, Table::Calls, rows::calls_of(f, t, n));
     }
     row(f, t, x, s, area, Table::Nodes, n)
 }
 
-// Node n. Where its rows wrote nothing, all that they ask is met, and it waits no longer.
+// A flow row of the stretch leads to node n.
+fn leads_back(f: &[u8], t: Tables, n: u16, z: Stretch) -> bool
+    ensures { λ r. ⌜ (r ≡ false → (j : ℕ) → z .from ≤ j → j < z .to → flowTo (now (f .entry)) t j ≡ n → ⊥) ⌝ }
+{
+    let end = z.to;
+    let mut j = z.from;
+    while j < end {
+        if tables::flow_to(f, t, j) == n {
+            return true;
+        }
+        j += 1;
+    }
+    false
+}
+
+// A plain node, a grant or a draw, n. What its flow rows ask is met afterwards, unless one leads back to it: then it waits on if anything was
+// written.
+fn visit_plain(f: &[u8], t: Tables, x: Shape, s: &mut [u8], area: &mut [u8], n: u16) -> bool
+    requires { ⌜ Queue (now f) t x (now s) (now area) × (n < t .nodes) × (nodeKind (now f) t n < callKind) ⌝ }
+    ensures { λ r. ⌜ Visited (now (f .entry)) t x n (now (s .entry)) (now (area .entry)) (now (s .exit)) (now (area .exit)) r ⌝ }
+{
+    let z = rows::flow_of(f, t, n);
+    let wrote = each(f, t, x, s, area, Table::Flow, z);
+    let back = leads_back(f, t, n, z);
+    if wrote & back {
+        return true;
+    }
+    area[n as usize] = 0;
+    wrote
+}
+
+// Node n. Where the rows of another node wrote nothing, all that they ask is met, and it waits no longer.
 fn visit(f: &[u8], t: Tables, x: Shape, s: &mut [u8], area: &mut [u8], n: u16) -> bool
     requires { ⌜ Queue (now f) t x (now s) (now area) × (n < t .nodes) ⌝ }
     ensures { λ r. ⌜ Visited (now (f .entry)) t x n (now (s .entry)) (now (area .entry)) (now (s .exit)) (now (area .exit)) r ⌝ }
 {
+    if tables::node_kind(f, t, n) < tables::CALL {
+        return visit_plain(f, t, x, s, area, n);
+    }
     if of_node(f, t, x, s, area, n) {
         return true;
     }

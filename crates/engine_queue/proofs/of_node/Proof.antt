@@ -1,36 +1,28 @@
 use mathlib.Core.Path.{_≡_, sym, _∙_}
 use native.Mathlib.Omega.{arith}
 use borrow.Author.Needs.{needs}
-use Rattle.tables.specs.declared.Table.the-variants.{Flow, Calls}
+use Rattle.tables.specs.declared.Table.the-variants.{Calls}
 use Rattle.rows.proofs.Stretches.{to-within}
 use Rattle.engine_row.proofs.Inside.{sorted}
-use Rattle.engine_queue.proofs.Moves.{node-flow, node-calls, node-end}
+use Rattle.engine_queue.proofs.Moves.{node-calls, node-end}
 use Rattle.engine_queue.proofs.of_node.Statement.{statement}
 use Rattle.engine_queue.proofs.of_node.Tie as tie
 
 each-requires : tie.Need-each-requires
 each-requires c κs =
-    ((c .before .before .before .before .before .before .before .before) .pre .0, rw (c .flow-of .ensures) (to-within _ _ Flow _))
+    ((c .before .before .before .before .before .before .before .before) .pre .0, rw (c .calls-of .ensures) (to-within _ _ Calls _))
 
 returns : tie.Need-returns
 returns c =
-    node-flow ((c .before .before .before .before .before .before .before .before .before .before .before .before .before) .pre .0) ((c .before .before .before .before .before .before .before .before .before .before .before .before .before) .args .n) ((c .before .before .before .before) .each .result) (omega (arith, (c .before .before .before .before .before .before .before .before) .if1 .taken, (c .before .before .before .before .before .before .before .before .before) .node-kind .ensures .0)) (rw ((c .before .before .before .before .before) .flow-of .ensures) at ((c .before .before .before .before) .each .ensures))
-
-each-requires-2 : tie.Need-each-requires-2
-each-requires-2 c κs =
-    ((c .before .before .before .before .before .before .before .before .before) .pre .0, rw (c .calls-of .ensures) (to-within _ _ Calls _))
-
-returns-2 : tie.Need-returns-2
-returns-2 c =
-    node-calls ((c .before .before .before .before .before .before .before .before .before .before .before .before .before .before) .pre .0) ((c .before .before .before .before .before .before .before .before .before .before .before .before .before .before) .args .n) ((c .before .before .before .before) .each2 .result) (sym ((c .before .before .before .before .before .before .before .before .before .before) .node-kind .ensures .0) ∙ (c .before .before .before .before .before .before .before .before) .if2 .taken) (rw ((c .before .before .before .before .before) .calls-of .ensures) at ((c .before .before .before .before) .each2 .ensures))
+    node-calls ((c .before .before .before .before .before .before .before .before .before .before .before .before .before) .pre .0) ((c .before .before .before .before .before .before .before .before .before .before .before .before .before) .args .n) ((c .before .before .before .before) .each .result) (sym ((c .before .before .before .before .before .before .before .before .before) .node-kind .ensures .0) ∙ (c .before .before .before .before .before .before .before .before) .if1 .taken) (rw ((c .before .before .before .before .before) .calls-of .ensures) at ((c .before .before .before .before) .each .ensures))
 
 row-requires : tie.Need-row-requires
 row-requires c κs =
-    ((c .before .before .before .before .before .before .before .before) .pre .0, (c .before .before .before .before .before .before .before .before) .pre .1)
+    ((c .before .before .before .before .before .before .before) .pre .0, (c .before .before .before .before .before .before .before) .pre .1)
 
-returns-3 : tie.Need-returns-3
-returns-3 c =
-    node-end ((c .before .before .before .before .before .before .before .before .before .before .before .before .before) .pre .0) ((c .before .before .before .before .before .before .before .before .before .before .before .before .before) .args .n) ((c .before .before .before .before) .row .result) (omega (arith, (c .before .before .before .before .before .before .before .before) .if1 .left, (c .before .before .before .before .before .before .before) .if2 .left, (c .before .before .before .before .before .before .before .before .before) .node-kind .ensures .0)) ((c .before .before .before .before) .row .ensures)
+returns-2 : tie.Need-returns-2
+returns-2 c =
+    node-end ((c .before .before .before .before .before .before .before .before .before .before .before .before) .pre .0) ((c .before .before .before .before .before .before .before .before .before .before .before .before) .args .n) ((c .before .before .before .before) .row .result) (omega (arith, (c .before .before .before .before .before .before .before) .if1 .left, (c .before .before .before .before .before .before .before .before .before .before .before .before) .pre .2, (c .before .before .before .before .before .before .before .before) .node-kind .ensures .0)) ((c .before .before .before .before) .row .ensures)
 
 pub of-node-spec : {M : Type 1} → statement M
 of-node-spec =
@@ -42,12 +34,7 @@ of-node-spec =
     (λ c. search needs)
     (λ c. search needs)
     returns
-    (λ c κs. sorted ((c .before .before .before .before .before .before .before .before) .pre .0 .ready))
-    each-requires-2
-    (λ c. search needs)
-    (λ c. search needs)
-    returns-2
     row-requires
     (λ c. search needs)
     (λ c. search needs)
-    returns-3)
+    returns-2)
