@@ -5,6 +5,7 @@ use single::Held;
 use single::One;
 ghost use mathlib.Core.Path.{_≡_};
 ghost use mathlib.Core.Bool.{true};
+ghost use mathlib.Core.Logic.{_↔_};
 ghost use Prim.Native.Nat.{_+_, _*_, _<_, _≤_};
 ghost use lib.ListN.{length, getD};
 ghost use Rattle.layout.specs.Layout.{stockSize, effectSize};
@@ -53,7 +54,7 @@ fn field(s: &[u8], t: u16, w: usize, n: usize, j: usize, none: u16, k: usize) ->
 // A block of t types, at most six, with n words each lies in the sheet.
 pub fn lies_in(s: &[u8], t: u16, w: usize, n: usize) -> bool
     requires { ⌜ n ≤ 4 ⌝ }
-    ensures { λ r. ⌜ (r ≡ true → (t ≤ 6) × (2 * (w + (1 + n * t)) ≤ length (now (s .entry)))) ⌝ }
+    ensures { λ r. ⌜ (r ≡ true) ↔ ((t ≤ 6) × (2 * (w + (1 + n * t)) ≤ length (now (s .entry)))) ⌝ }
 {
     let have = s.len() / 2;
     if have < w {

@@ -12,8 +12,8 @@ returns c = λ h.
     let second = number .before in
     let first = second .before .before in
     let blocks = and-l _ _ h in
-    let there = first .lies-in .ensures (and-l _ _ blocks) in
-    let here = second .lies-in2 .ensures (and-r (first .lies-in .result) _ blocks) in
+    let there = first .lies-in .ensures .0 (and-l _ _ blocks) in
+    let here = second .lies-in2 .ensures .0 (and-r (first .lies-in .result) _ blocks) in
     let a = first .before .before .before .args in
     let own : number .node-number .result < a .x .types = ltb-true (number .node-number .result) (a .x .types) (and-r (first .lies-in .result && second .lies-in2 .result) _ h) in
     (there .0, rw (number .node-number .ensures .0) at own, there .1, rw (second .before .node-at .ensures) at (here .1))

@@ -16,7 +16,7 @@ stepped-requires : tie.Need-stepped-requires
 stepped-requires c κs =
     let test = c .before in
     let lies = test .before .before in
-    let block = lies .lies-in .ensures (and-l _ _ (test .if1 .taken)) in
+    let block = lies .lies-in .ensures .0 (and-l _ _ (test .if1 .taken)) in
     (block .0, ltb-true _ _ (and-r (lies .lies-in .result) _ (test .if1 .taken)), block .1)
 
 returns : tie.Need-returns

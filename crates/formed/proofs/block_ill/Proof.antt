@@ -13,7 +13,7 @@ use Rattle.formed.proofs.block_ill.Statement.{statement}
 use Rattle.formed.proofs.block_ill.Tie as tie
 
 inner-ill-requires : tie.Need-inner-ill-requires
-inner-ill-requires c κs = c .before .lies-in .ensures (and-r (not (c .before .before .is-stock .result)) _ (c .if1 .taken))
+inner-ill-requires c κs = c .before .lies-in .ensures .0 (and-r (not (c .before .before .is-stock .result)) _ (c .if1 .taken))
 
 returns : tie.Need-returns
 unfolding illBlock

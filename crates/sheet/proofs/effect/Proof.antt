@@ -16,7 +16,7 @@ effect-spec =
     tie.close
     (tie.spec
     (λ c κs. search needs)
-    (λ c κs. c .before .lies-in .ensures (c .if1 .taken))
+    (λ c κs. c .before .lies-in .ensures .0 (c .if1 .taken))
     (λ c. c .inner-effect .ensures)
     (λ c κs. search needs)
     (λ c κs. search needs)

@@ -17,7 +17,7 @@ six-of-spec =
     tie.close
     (tie.spec
     (λ c κs. search needs)
-    (λ c κs. let h = c .before .lies-in .ensures (c .if1 .taken) in (h .0, search needs, h .1))
+    (λ c κs. let h = c .before .lies-in .ensures .0 (c .if1 .taken) in (h .0, search needs, h .1))
     (λ c. c .inner-column .ensures)
     (λ c κs. search needs)
     (λ c κs. search needs)

@@ -9,7 +9,7 @@ effect-fails-spec =
     tie.close
     (tie.spec
     (λ c κs. search needs)
-    (λ c κs. c .before .lies-in .ensures (c .if1 .taken) .1)
+    (λ c κs. c .before .lies-in .ensures .0 (c .if1 .taken) .1)
     (λ c. search needs)
     (λ c κs. search needs)
     (λ c κs. search needs)
