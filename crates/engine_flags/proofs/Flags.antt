@@ -16,12 +16,14 @@ use lib.ListN.{length, getD, set, replicate, length-set, length-replicate}
 use lib.Seq.{getD-set-same, getD-set-other}
 use Rattle.tables.specs.declared.Tables.{Tables}
 use Rattle.tables.specs.declared.Table.{Table}
-use Rattle.tables.specs.declared.Table.the-variants.{Calls}
+use Rattle.tables.specs.declared.Table.the-variants.{Calls, Catches}
 use Rattle.tables.specs.Rows.{rowsOf}
 use Rattle.tables.specs.Fields.{nodeMethod, callNode, callMethod}
 use Rattle.graph.specs.Judgement.{shapeOf}
 use Rattle.rows.specs.declared.Stretch.{Stretch}
-use Rattle.rows.specs.Rows.{Sorted, targetOf}
+use Rattle.tables.specs.Family.{nearest}
+use Rattle.rows.specs.Rows.{Sorted, targetOf, catchKey, hasOwn}
+use Rattle.rows.proofs.Stretches.{to-within}
 use Rattle.graph.proofs.Whole.{Limits}
 use Rattle.layout.specs.Layout.{sheetBytes}
 use Rattle.demand.specs.Demand.{turned}
@@ -173,3 +175,10 @@ turned-eight false n j b m = absurd (false≢true b)
 pub turned-forth : (backwards : Bool) (n j : ℕ) → backwards ≡ false → turned backwards n j ≡ j
 turned-forth true n j b = absurd (true≢false b)
 turned-forth false n j b = refl
+
+-- with no catch rows an exception leads to the exits alone
+pub no-handlers : (f : List ℕ) (t : Tables) (a : List ℕ) (n e : ℕ) → t .catches ≡ 0 → Waits a (512 + nodeMethod f t n) → LeavesWait f t a n e
+no-handlers f t a n e z w = record {
+  handlers = λ u j i. absurd (omega (arith, i .1, to-within f t Catches (catchKey n (nearest f t (hasOwn f t n) e))));
+  exit = λ u. w;
+}

@@ -9,7 +9,7 @@ ghost use Prim.Native.Nat.{ℕ, _+_, _<_, _≤_};
 ghost use lib.ListN.{length};
 ghost use Rattle.tables.specs.declared.Table.the-variants.{Calls};
 ghost use Rattle.tables.specs.Rows.{rowsOf};
-ghost use Rattle.tables.specs.Fields.{callNode};
+ghost use Rattle.tables.specs.Fields.{nodeMethod, callNode};
 ghost use Rattle.engine_flags.specs.Flags.{Able, Waits, Woken, Awake, Forgot, AllWait, LeavesWait, EndWaits, CallWaits, RowWaits, PassedOn, Spread, Clear};
 
 // The flag i is set.
@@ -33,6 +33,14 @@ fn wake_each(f: &[u8], t: Tables, area: &mut [u8], table: Table, z: Stretch)
     }
 }
 
+// The exits of the method of node n.
+fn wake_exits(f: &[u8], t: Tables, area: &mut [u8], n: u16)
+    requires { ⌜ length (now area) ≡ 4096 ⌝ }
+    ensures { λ _. ⌜ Woken (now (area .entry)) (now (area .exit)) × Waits (now (area .exit)) (512 + nodeMethod (now (f .entry)) t n) ⌝ }
+{
+    wake(area, 512 + tables::node_method(f, t, n) as usize);
+}
+
 // Where the exception e leads to at the node n: the catch rows that apply, or the exits of its method.
 fn wake_leaving(f: &[u8], t: Tables, area: &mut [u8], n: u16, e: u16)
     requires { ⌜ Able (now f) t (now area) × (n < t .nodes) ⌝ }
@@ -40,17 +48,21 @@ fn wake_leaving(f: &[u8], t: Tables, area: &mut [u8], n: u16, e: u16)
 {
     let handlers = rows::catches_of(f, t, n, e);
     if rows::no_rows(handlers) {
-        wake(area, 512 + tables::node_method(f, t, n) as usize);
+        wake_exits(f, t, area, n);
         return;
     }
     wake_each(f, t, area, Table::Catches, handlers);
 }
 
-// Where any exception does.
+// Where any exception does. With no catch rows at all that is the exits of its method.
 fn wake_thrown(f: &[u8], t: Tables, area: &mut [u8], n: u16)
     requires { ⌜ Able (now f) t (now area) × (n < t .nodes) ⌝ }
     ensures { λ _. ⌜ Woken (now (area .entry)) (now (area .exit)) × ((e : ℕ) → e < 8 → LeavesWait (now (f .entry)) t (now (area .exit)) n e) ⌝ }
 {
+    if t.catches == 0 {
+        wake_exits(f, t, area, n);
+        return;
+    }
     let mut e = 0;
     while e < 8 {
         wake_leaving(f, t, area, n, e);
@@ -64,7 +76,7 @@ fn wake_end(f: &[u8], t: Tables, area: &mut [u8], n: u16)
     ensures { λ _. ⌜ Woken (now (area .entry)) (now (area .exit)) × EndWaits (now (f .entry)) t (now (area .exit)) n ⌝ }
 {
     if tables::node_kind(f, t, n) == tables::RETURN {
-        wake(area, 512 + tables::node_method(f, t, n) as usize);
+        wake_exits(f, t, area, n);
         return;
     }
     wake_leaving(f, t, area, n, tables::node_number(f, t, n));

@@ -1,5 +1,4 @@
-use Prim.Native.Nat.{_+_}
-use mathlib.Core.Path.{_≡_, sym, ap, _∙_}
+use mathlib.Core.Path.{_∙_}
 use native.Mathlib.Omega.{arith}
 use borrow.Author.Needs.{needs}
 use borrow.Author.Tests.{eqb-true}
@@ -9,18 +8,13 @@ use Rattle.tables.specs.Fields.{nodeKind}
 use Rattle.engine_flags.proofs.wake_end.Statement.{statement}
 use Rattle.engine_flags.proofs.wake_end.Tie as tie
 
-wake-requires : tie.Need-wake-requires
-wake-requires c κs =
-    let p = (c .before .before .before .before .before .before) .pre in
-    omega (arith, c .node-method .ensures .1, p .0 .wide)
-
 returns : tie.Need-returns
 returns c =
-    let kind = (c .before .before .before .before .before .before) .node-kind .ensures .0 in (
-      (c .before .before) .wake .ensures .0,
+    let kind = (c .before .before .before .before .before) .node-kind .ensures .0 in (
+      (c .before .before) .wake-exits .ensures .0,
       record {
-        returns = λ z. rw ((c .before .before .before) .node-method .ensures .0) at ((c .before .before) .wake .ensures .1);
-        throws = λ z. absurd (omega (arith, eqb-true (nodeKind (now ((c .before .before .before .before .before .before .before .before .before) .args .f)) ((c .before .before .before .before .before .before .before .before .before) .args .t) ((c .before .before .before .before .before .before .before .before .before) .args .n)) throwKind z, kind, (c .before .before .before .before .before) .if1 .taken));
+        returns = λ z. (c .before .before) .wake-exits .ensures .1;
+        throws = λ z. absurd (omega (arith, eqb-true (nodeKind (now ((c .before .before .before .before .before .before .before .before) .args .f)) ((c .before .before .before .before .before .before .before .before) .args .t) ((c .before .before .before .before .before .before .before .before) .args .n)) throwKind z, kind, (c .before .before .before .before) .if1 .taken));
       },
     )
 
@@ -39,10 +33,7 @@ wake-end-spec =
     tie.close
     (tie.spec
     (λ c κs. search needs)
-    (λ c κs. search needs)
-    (λ c. search needs)
-    (λ c. search needs)
-    wake-requires
+    (λ c κs. (c .before .before .before .before .before) .pre .0 .wide)
     (λ c. search needs)
     returns
     (λ c κs. search needs)

@@ -1,24 +1,17 @@
-use Prim.Native.Nat.{_+_}
 use mathlib.Core.Path.{_≡_, sym, ap, _∙_}
-use mathlib.Core.Bool.{true, false, true≢false}
-use native.Mathlib.Omega.{arith}
+use mathlib.Core.Bool.{true≢false}
 use borrow.Author.Needs.{needs}
 use Rattle.tables.specs.declared.Table.the-variants.{Catches}
 use Rattle.rows.specs.Rows.{noRows}
 use Rattle.rows.proofs.Stretches.{to-within}
-use Rattle.engine_flags.proofs.Flags.{sorted, method-inside}
+use Rattle.engine_flags.proofs.Flags.{sorted}
 use Rattle.engine_flags.proofs.wake_leaving.Statement.{statement}
 use Rattle.engine_flags.proofs.wake_leaving.Tie as tie
 
-wake-requires : tie.Need-wake-requires
-wake-requires c κs =
-    let p = (c .before .before .before .before .before .before .before) .pre in
-    omega (arith, c .node-method .ensures .1, p .0 .wide)
-
 returns : tie.Need-returns
 returns c =
-    let u = ap noRows (sym ((c .before .before .before .before .before .before .before) .catches-of .ensures)) ∙ sym ((c .before .before .before .before .before .before) .no-rows .ensures) ∙ (c .before .before .before .before .before) .if1 .taken in
-    ((c .before .before) .wake .ensures .0, record { handlers = λ z. absurd (true≢false (sym u ∙ z)); exit = λ z. rw ((c .before .before .before) .node-method .ensures .0) at ((c .before .before) .wake .ensures .1) })
+    let u = ap noRows (sym ((c .before .before .before .before .before .before) .catches-of .ensures)) ∙ sym ((c .before .before .before .before .before) .no-rows .ensures) ∙ (c .before .before .before .before) .if1 .taken in
+    ((c .before .before) .wake-exits .ensures .0, record { handlers = λ z. absurd (true≢false (sym u ∙ z)); exit = λ z. (c .before .before) .wake-exits .ensures .1 })
 
 wake-each-requires : tie.Need-wake-each-requires
 wake-each-requires c κs =
@@ -35,10 +28,7 @@ wake-leaving-spec =
     (tie.spec
     (λ c κs. sorted ((c .before .before) .pre .0))
     (λ c κs. search needs)
-    (λ c κs. search needs)
-    (λ c. search needs)
-    (λ c. search needs)
-    wake-requires
+    (λ c κs. (c .before .before .before .before .before .before) .pre .0 .wide)
     (λ c. search needs)
     returns
     wake-each-requires
