@@ -2,7 +2,7 @@
  *
  * Operations over bytes that the caller lends: whatever the bytes are, and
  * however many, there is an answer. None allocates or keeps anything. Link
- * target/staticlib/libloader.a; docs/FORMAT.md has the layout of graph, sheet
+ * target/staticlib/libsnellair.a; docs/FORMAT.md has the layout of graph, sheet
  * and listing.
  *
  * All that is asked of the caller: behind a pointer there are as many bytes,

@@ -1,4 +1,4 @@
-/* What crates/work_corpus prints, by the peer: for each file named, the name,
+/* What crates/corpus_work prints, by the peer: for each file named, the name,
  * the answer's number, type, place and line; after a verdict each marked block
  * of the sheet, by its first word's number and then its words. */
 #include "answer.h"

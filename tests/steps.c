@@ -1,6 +1,6 @@
 /* Counts the products of the chain for 1 to 255 repeats, from the request alone: a power of y is known by its exponent, a
    product adds two exponents, and the exit once more is a product too. Prints the repeats and the count twice, as the program
-   round_steps prints what was spent and what is said. */
+   program_steps prints what was spent and what is said. */
 #include <stdio.h>
 #include <stdlib.h>
 

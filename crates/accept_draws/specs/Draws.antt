@@ -7,12 +7,12 @@ use Rattle.words.specs.Lowest.{lowest}
 use Rattle.answer.specs.declared.Answer.{Answer}
 use Rattle.answer.specs.declared.Answer.the-variants.{Pass}
 use Rattle.effect.specs.Whole.{coversOf}
-use Rattle.tables.specs.declared.Tables.{Tables}
-use Rattle.tables.specs.Kinds.{drawKind}
-use Rattle.tables.specs.Fields.{nodeKind, nodeNumber, nodeRights}
+use Rattle.graph_tables.specs.declared.Tables.{Tables}
+use Rattle.graph_tables.specs.Kinds.{drawKind}
+use Rattle.graph_tables.specs.Fields.{nodeKind, nodeNumber, nodeRights}
 use Rattle.graph_places.specs.Places.{overdrawnAt}
-use Rattle.layout.specs.declared.Shape.{Shape}
-use Rattle.listing.specs.Node.{isReached, nodeStock}
+use Rattle.sheet_layout.specs.declared.Shape.{Shape}
+use Rattle.reach.specs.Node.{isReached, nodeStock}
 
 -- node n is a draw that is reached and not covered
 unfoldable pub uncoveredAt : List ℕ → Tables → Shape → List ℕ → ℕ → Bool

@@ -1,7 +1,7 @@
 // The draws that a sheet calls reached, each against the stock that it says there.
 use answer::Answer;
-use layout::Shape;
-use tables::Tables;
+use graph_tables::Tables;
+use sheet_layout::Shape;
 ghost use mathlib.Core.Path.{_≡_};
 ghost use Rattle.words.specs.Lowest.{lowest};
 ghost use Rattle.accept_draws.specs.Draws.{uncoveredAt, verdictOf};
@@ -10,13 +10,13 @@ ghost use Rattle.accept_draws.specs.Draws.{uncoveredAt, verdictOf};
 fn uncovered(f: &[u8], t: Tables, x: Shape, s: &[u8], n: u16) -> bool
     ensures { λ r. ⌜ r ≡ uncoveredAt (now (f .entry)) t x (now (s .entry)) n ⌝ }
 {
-    if tables::node_kind(f, t, n) != tables::DRAW {
+    if graph_tables::node_kind(f, t, n) != graph_tables::DRAW {
         return false;
     }
-    if listing::reached(f, t, x, s, n) {
-        let number = tables::node_number(f, t, n);
-        let rights = tables::node_rights(f, t, n);
-        return !listing::covers(f, t, x, s, n, number as usize, rights);
+    if reach::reached(f, t, x, s, n) {
+        let number = graph_tables::node_number(f, t, n);
+        let rights = graph_tables::node_rights(f, t, n);
+        return !reach::covers(f, t, x, s, n, number as usize, rights);
     }
     false
 }

@@ -1,11 +1,11 @@
 // The lent row of the check of many sheets: of how many sheets it tells, and what is put into it for each.
 use answer::Answer;
-use layout::Shape;
+use sheet_layout::Shape;
 ghost use mathlib.Core.Path.{_≡_};
 ghost use Prim.Native.Nat.{ℕ, _+_, _*_, _≤_, _<_};
 ghost use lib.ListN.{length, set};
 ghost use Rattle.answer.specs.Number.{numberOf, placeOf};
-ghost use Rattle.layout.specs.Layout.{Within, sheetBytes};
+ghost use Rattle.sheet_layout.specs.Layout.{Within, sheetBytes};
 ghost use Rattle.accept_row.specs.Counts.{Counts};
 
 // How many sheets so many bytes are, where the row has two numbers for each; 0 where they are not 1 to 20 whole ones.
@@ -21,7 +21,7 @@ pub fn count_of(x: Shape, bytes: usize, numbers: usize) -> usize
     if numbers != 2 * count {
         return 0;
     }
-    if bytes != count * layout::sheet_bytes(x) {
+    if bytes != count * sheet_layout::sheet_bytes(x) {
         return 0;
     }
     count

@@ -5,14 +5,14 @@ use mathlib.Core.Bool.{true}
 use native.Mathlib.Omega.{arith}
 use native.Mathlib.Decide.{decLe, decLt}
 use native.Mathlib.Nat.{suc-mul, zero-mul}
-use Rattle.number.specs.Number.{counted, less, countAfter, rightsAfter}
-use Rattle.number.specs.Formulas.{thenCap, sumDrop, earlierDrop}
-use Rattle.number.proofs.Cases.{less-endless, less-finite, cap-some, sum-small, sum-large}
-use Rattle.single.specs.declared.Held.{Held}
-use Rattle.single.specs.declared.One.{One}
-use Rattle.single.specs.Single.{applyOne}
-use Rattle.single.specs.Formulas.{normalOne, timesOne}
-use Rattle.single.proofs.Cases.{many, times-none, times-some}
+use Rattle.effect_number.specs.Number.{counted, less, countAfter, rightsAfter}
+use Rattle.effect_number.specs.Formulas.{thenCap, sumDrop, earlierDrop}
+use Rattle.effect_number.proofs.Cases.{less-endless, less-finite, cap-some, sum-small, sum-large}
+use Rattle.effect_one.specs.declared.Held.{Held}
+use Rattle.effect_one.specs.declared.One.{One}
+use Rattle.effect_one.specs.Single.{applyOne}
+use Rattle.effect_one.specs.Formulas.{normalOne, timesOne}
+use Rattle.effect_one.proofs.Cases.{many, times-none, times-some}
 use Rattle.effect.specs.declared.Stock.{Stock}
 use Rattle.effect.specs.declared.Effect.{Effect}
 use Rattle.effect.specs.Six.{heldAt, stockOf, oneAt}

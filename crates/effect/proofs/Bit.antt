@@ -10,7 +10,7 @@ use lib.Bits.{bitAnd, bitOr, and-step, or-step, and-shr, or-shr}
 use lib.Pow.{shr-shr, pow-pos}
 use lib.Arith.{bin-ind}
 use borrow.Author.Tests.{eqb-true, eq-eqb}
-use Rattle.number.specs.Formulas.{within}
+use Rattle.effect_number.specs.Formulas.{within}
 use Rattle.effect.specs.Coordinate.{bit}
 
 pub bit-lt : (k n : ℕ) → bit k n < 2

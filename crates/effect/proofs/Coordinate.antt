@@ -15,12 +15,12 @@ use lib.Bits.{and-le-r, bitOr}
 use lib.Dec.{ltb, eqb}
 use lib.ListN.{getD}
 use borrow.Author.Tests.{le-leb, leb-true, ltb-true, lt-ltb, eq-eqb, ne-eqb}
-use Rattle.single.specs.declared.Held.{Held}
-use Rattle.single.specs.declared.One.{One}
-use Rattle.number.specs.Number.{pick, counted, less, rightsAfter}
-use Rattle.number.specs.Formulas.{within}
-use Rattle.single.specs.Single.{idle, applyOne}
-use Rattle.single.specs.Formulas.{drawn, granted, lowerHeld, coversHeld}
+use Rattle.effect_one.specs.declared.Held.{Held}
+use Rattle.effect_one.specs.declared.One.{One}
+use Rattle.effect_number.specs.Number.{pick, counted, less, rightsAfter}
+use Rattle.effect_number.specs.Formulas.{within}
+use Rattle.effect_one.specs.Single.{idle, applyOne}
+use Rattle.effect_one.specs.Formulas.{drawn, granted, lowerHeld, coversHeld}
 use Rattle.effect.specs.declared.Stock.{Stock}
 use Rattle.effect.specs.declared.Effect.{Effect}
 use Rattle.effect.specs.Six.{heldAt, oneAt, effectOf}

@@ -5,9 +5,9 @@ use native.Mathlib.Omega.{arith}
 use native.Mathlib.Decide.{ℕ-discrete, decLe, decLt}
 use lib.Dec.{leb}
 use borrow.Author.Tests.{le-leb, lt-leb}
-use Rattle.number.specs.Number.{counted, less, pick, left, countAfter}
-use Rattle.number.specs.Formulas.{normDrop, thenCap, sumDrop, largerDrop}
-use Rattle.number.proofs.Cases.{less-endless, less-finite, left-none, left-some, norm-none, norm-254, norm-keep, cap-none, cap-some, sum-none-r, sum-none-l, sum-small, sum-large, larger-none-l, larger-none-r, larger-some}
+use Rattle.effect_number.specs.Number.{counted, less, pick, left, countAfter}
+use Rattle.effect_number.specs.Formulas.{normDrop, thenCap, sumDrop, largerDrop}
+use Rattle.effect_number.proofs.Cases.{less-endless, less-finite, left-none, left-some, norm-none, norm-254, norm-keep, cap-none, cap-some, sum-none-r, sum-none-l, sum-small, sum-large, larger-none-l, larger-none-r, larger-some}
 
 pub less-top : (r d : ℕ) → less r d ≤ 255
 less-top r d = elim (decLe 255 r) [

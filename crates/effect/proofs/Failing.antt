@@ -10,7 +10,7 @@ use native.Mathlib.Decide.{decLt}
 use lib.Dec.{eqb}
 use borrow.Author.Tests.{eq-eqb, ne-eqb}
 use Rattle.words.proofs.Lowest.{is-lowest}
-use Rattle.single.specs.Formulas.{atMostOne, heldAtMost}
+use Rattle.effect_one.specs.Formulas.{atMostOne, heldAtMost}
 use Rattle.effect.specs.declared.Stock.{Stock}
 use Rattle.effect.specs.declared.Effect.{Effect}
 use Rattle.effect.specs.Six.{allSix, heldAt, oneAt}

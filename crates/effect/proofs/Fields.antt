@@ -5,7 +5,7 @@ use mathlib.Core.Bool.{Bool, true, false}
 use lib.ListN.{getD}
 use lib.Dec.{eqb}
 use native.Mathlib.Omega.{arith}
-use Rattle.single.specs.Single.{idle}
+use Rattle.effect_one.specs.Single.{idle}
 use Rattle.effect.specs.declared.Stock.{Stock}
 use Rattle.effect.specs.declared.Effect.{Effect}
 use Rattle.effect.specs.Six.{oneAt, heldAt}

@@ -8,11 +8,11 @@ use lib.Dec.{ltb, eqb}
 use borrow.Author.Tests.{ne-eqb}
 use native.Mathlib.Numerals.{add-one}
 use native.Mathlib.Omega.{arith}
-use Rattle.single.specs.declared.Held.{Held}
-use Rattle.single.specs.declared.One.{One}
+use Rattle.effect_one.specs.declared.Held.{Held}
+use Rattle.effect_one.specs.declared.One.{One}
 use Rattle.effect.specs.declared.Stock.{Stock}
 use Rattle.effect.specs.declared.Effect.{Effect}
-use Rattle.single.specs.Single.{idle}
+use Rattle.effect_one.specs.Single.{idle}
 use Rattle.effect.specs.Apply.{oneIf}
 use Rattle.effect.specs.Six.{six, allSix, effectOf, stockOf}
 use Rattle.effect.proofs.Six.{below-six}

@@ -13,12 +13,12 @@ use native.Mathlib.Decide.{decLt}
 use native.Mathlib.Nat.{min-eq-left}
 use lib.Dec.{eqb}
 use lib.Bits.{bitOr, and-comm, and-le-l, and-le-r}
-use Rattle.single.specs.declared.Held.{Held}
-use Rattle.single.specs.declared.One.{One}
-use Rattle.number.specs.Number.{counted, rightsAfter, countAfter}
-use Rattle.number.specs.Formulas.{normDrop, within}
-use Rattle.single.specs.Single.{idle, applyOne}
-use Rattle.single.specs.Formulas.{normalForm, normalOne, drawn, granted, thenOne, bothOne, atMostOne, heldAtMost, lowerHeld}
+use Rattle.effect_one.specs.declared.Held.{Held}
+use Rattle.effect_one.specs.declared.One.{One}
+use Rattle.effect_number.specs.Number.{counted, rightsAfter, countAfter}
+use Rattle.effect_number.specs.Formulas.{normDrop, within}
+use Rattle.effect_one.specs.Single.{idle, applyOne}
+use Rattle.effect_one.specs.Formulas.{normalForm, normalOne, drawn, granted, thenOne, bothOne, atMostOne, heldAtMost, lowerHeld}
 use Rattle.effect.specs.declared.Stock.{Stock}
 use Rattle.effect.specs.declared.Effect.{Effect}
 use Rattle.effect.specs.Six.{heldAt, stockOf, oneAt, effectOf}

@@ -26,7 +26,7 @@ use Rattle.effect.proofs.Single.{normal-true, true-normal}
 use Rattle.effect.proofs.Laws.{Words, normal-at, at-most-anti}
 use Rattle.effect.proofs.Coordinate.{at-lower, stock-at-sound, stock-at-complete, at-most-at-sound, at-most-at-complete, covers-sound, covers-complete}
 use Rattle.effect.proofs.Failing.{fails-means, stock-fails-means}
-use Rattle.single.specs.Formulas.{normalOne}
+use Rattle.effect_one.specs.Formulas.{normalOne}
 
 -- the test of normal form is the meaning
 pub normal-sound : (e : Effect) → normalOf e ≡ true → Normal e

@@ -7,9 +7,9 @@ use native.Mathlib.Omega.{arith}
 use native.Mathlib.Decide.{ℕ-discrete, decLe}
 use lib.Dec.{leb, eqb}
 use borrow.Author.Tests.{eq-eqb, le-leb, eqb-true, leb-true}
-use Rattle.number.specs.Number.{counted, less, countAfter}
-use Rattle.number.specs.Formulas.{normDrop, rank, countAtMost}
-use Rattle.number.proofs.Cases.{less-endless, less-finite, left-none, left-some, norm-zero, norm-none, norm-254, norm-keep, rank-none, rank-some}
+use Rattle.effect_number.specs.Number.{counted, less, countAfter}
+use Rattle.effect_number.specs.Formulas.{normDrop, rank, countAtMost}
+use Rattle.effect_number.proofs.Cases.{less-endless, less-finite, left-none, left-some, norm-zero, norm-none, norm-254, norm-keep, rank-none, rank-some}
 use Rattle.effect.proofs.Bools.{and-l, and-r, and-i, or-e, or-l, or-r}
 use Rattle.effect.proofs.Count.{less-order, left-le}
 

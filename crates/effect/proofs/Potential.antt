@@ -11,11 +11,11 @@ use native.Mathlib.Nat.{lt-of-not-le}
 use lib.Bits.{bitAnd, and-le-l, and-le-r}
 use lib.Dec.{eqb}
 use borrow.Author.Tests.{eq-eqb, ne-eqb, eqb-true, eqb-false, leb-false}
-use Rattle.single.specs.declared.Held.{Held}
-use Rattle.single.specs.declared.One.{One}
-use Rattle.number.specs.Number.{pick, counted}
-use Rattle.number.specs.Formulas.{rank, within}
-use Rattle.single.specs.Formulas.{normalOne, atMostOne, heldAtMost, lowerHeld}
+use Rattle.effect_one.specs.declared.Held.{Held}
+use Rattle.effect_one.specs.declared.One.{One}
+use Rattle.effect_number.specs.Number.{pick, counted}
+use Rattle.effect_number.specs.Formulas.{rank, within}
+use Rattle.effect_one.specs.Formulas.{normalOne, atMostOne, heldAtMost, lowerHeld}
 use Rattle.effect.specs.declared.Stock.{Stock}
 use Rattle.effect.specs.declared.Effect.{Effect}
 use Rattle.effect.specs.Six.{oneAt, heldAt}

@@ -4,7 +4,7 @@ use mathlib.Core.Path.{_≡_, _∙_, ap}
 use native.Mathlib.Omega.{arith}
 use native.Mathlib.Nat.{max-min-distrib-left}
 use lib.Bits.{bitAnd, bitOr}
-use Rattle.number.specs.Number.{rightsAfter}
+use Rattle.effect_number.specs.Number.{rightsAfter}
 use Rattle.effect.specs.Coordinate.{bit}
 use Rattle.effect.proofs.Bit.{bit-lt, bit-and, bit-or, bit-ext, bit-none, bit-ones}
 use Rattle.effect.proofs.Count.{min-swap}

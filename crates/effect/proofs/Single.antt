@@ -7,15 +7,15 @@ use native.Mathlib.Nat.{min-eq-left}
 use lib.Bits.{bitAnd}
 use lib.Dec.{leb}
 use borrow.Author.Tests.{le-leb, leb-true, eq-eqb, eqb-true}
-use Rattle.single.specs.declared.Held.{Held}
-use Rattle.single.specs.declared.One.{One}
-use Rattle.number.specs.Number.{counted, less, rightsAfter}
-use Rattle.number.specs.Formulas.{normDrop, within}
-use Rattle.single.specs.Single.{applyOne}
-use Rattle.single.specs.Formulas.{normalForm, normalOne, thenOne, bothOne, atMostOne, heldAtMost, lowerHeld, granted, drawn}
+use Rattle.effect_one.specs.declared.Held.{Held}
+use Rattle.effect_one.specs.declared.One.{One}
+use Rattle.effect_number.specs.Number.{counted, less, rightsAfter}
+use Rattle.effect_number.specs.Formulas.{normDrop, within}
+use Rattle.effect_one.specs.Single.{applyOne}
+use Rattle.effect_one.specs.Formulas.{normalForm, normalOne, thenOne, bothOne, atMostOne, heldAtMost, lowerHeld, granted, drawn}
 use Rattle.effect.specs.Coordinate.{bit, RightsWithin}
 use Rattle.effect.specs.Meaning.{NormalAt}
-use Rattle.number.proofs.Cases.{norm-zero}
+use Rattle.effect_number.proofs.Cases.{norm-zero}
 use Rattle.effect.proofs.Bools.{and-l, and-r, and-i}
 use Rattle.effect.proofs.Count.{less-top, after-norm, after-then, after-both, after-mono, after-min, after-top}
 use Rattle.effect.proofs.Order.{after-none, after-some, Under, under-true, true-under, under-sound, under-complete, under-anti, norm-kept, norm-le, kept-254, form-kept}

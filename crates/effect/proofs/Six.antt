@@ -7,8 +7,8 @@ use mathlib.Core.Logic.{⊎-elim}
 use native.Mathlib.Omega.{arith}
 use lib.ListN.{getD, length}
 use Rattle.words.specs.Lowest.{lowest}
-use Rattle.single.specs.declared.Held.{Held}
-use Rattle.single.specs.declared.One.{One}
+use Rattle.effect_one.specs.declared.Held.{Held}
+use Rattle.effect_one.specs.declared.One.{One}
 use Rattle.effect.specs.declared.Stock.{Stock}
 use Rattle.effect.specs.declared.Effect.{Effect}
 use Rattle.effect.specs.Six.{six, among, allSix, oneAt, effectOf, heldAt, stockOf}

@@ -7,12 +7,12 @@ use lib.Bits.{bitAnd, bitOr, and-le-l, and-le-r}
 use lib.Dec.{leb, eqb}
 use borrow.Author.Tests.{leb-true, eqb-true, ne-eqb}
 use native.Mathlib.Omega.{arith}
-use Rattle.single.specs.declared.Held.{Held}
-use Rattle.single.specs.declared.One.{One}
-use Rattle.number.specs.Number.{less, left, countAfter, rightsAfter}
-use Rattle.number.specs.Formulas.{normDrop, thenCap, sumDrop, rank, largerDrop, within}
-use Rattle.single.specs.Single.{idle, applyOne}
-use Rattle.single.specs.Formulas.{normalForm, normalOne, drawn, granted, thenOne, bothOne, lowerHeld}
+use Rattle.effect_one.specs.declared.Held.{Held}
+use Rattle.effect_one.specs.declared.One.{One}
+use Rattle.effect_number.specs.Number.{less, left, countAfter, rightsAfter}
+use Rattle.effect_number.specs.Formulas.{normDrop, thenCap, sumDrop, rank, largerDrop, within}
+use Rattle.effect_one.specs.Single.{idle, applyOne}
+use Rattle.effect_one.specs.Formulas.{normalForm, normalOne, drawn, granted, thenOne, bothOne, lowerHeld}
 use Rattle.effect.specs.declared.Stock.{Stock}
 use Rattle.effect.specs.declared.Effect.{Effect}
 use Rattle.effect.specs.Six.{heldAt, stockOf, noneHeld, oneAt, effectOf}

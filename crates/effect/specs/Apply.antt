@@ -1,8 +1,8 @@
 -- What an effect leaves of a stock, and nothing done at some types.
 use Prim.Native.Nat.{ℕ}
 use mathlib.Core.Bool.{Bool, true, false}
-use Rattle.single.specs.declared.One.{One}
-use Rattle.single.specs.Single.{idle, applyOne}
+use Rattle.effect_one.specs.declared.One.{One}
+use Rattle.effect_one.specs.Single.{idle, applyOne}
 use Rattle.effect.specs.declared.Stock.{Stock}
 use Rattle.effect.specs.declared.Effect.{Effect}
 use Rattle.effect.specs.Six.{heldAt, stockOf, oneAt}

@@ -1,7 +1,7 @@
 -- A stock as numbers that stand alone: each right of each type, and each type's count.
 use Prim.Native.Nat.{ℕ, _/_, _%_, _^_, _≤_, _<_}
 use lib.ListN.{getD}
-use Rattle.number.specs.Number.{counted}
+use Rattle.effect_number.specs.Number.{counted}
 use Rattle.effect.specs.declared.Stock.{Stock}
 
 -- bit b of n

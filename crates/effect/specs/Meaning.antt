@@ -5,8 +5,8 @@ use mathlib.Core.Bool.{Bool, true}
 use mathlib.Core.List.{List}
 use lib.ListN.{getD}
 use lib.Dec.{eqb}
-use Rattle.single.specs.declared.One.{One}
-use Rattle.number.specs.Number.{pick, less}
+use Rattle.effect_one.specs.declared.One.{One}
+use Rattle.effect_number.specs.Number.{pick, less}
 use Rattle.effect.specs.declared.Stock.{Stock}
 use Rattle.effect.specs.declared.Effect.{Effect}
 use Rattle.effect.specs.Six.{six, oneAt}

@@ -1,11 +1,11 @@
--- The operations on stocks and effects: at each type, the formulas of `single`. A type above 5 is never covered, and to grant
+-- The operations on stocks and effects: at each type, the formulas of `effect_one`. A type above 5 is never covered, and to grant
 -- or draw it does nothing.
 use Prim.Native.Nat.{ℕ}
 use mathlib.Core.Bool.{Bool, _&&_, not}
 use lib.Dec.{ltb, eqb}
 use Rattle.words.specs.Lowest.{lowest}
-use Rattle.single.specs.Single.{idle}
-use Rattle.single.specs.Formulas.{normalOne, drawn, granted, thenOne, timesOne, bothOne, atMostOne, heldAtMost, lowerHeld, coversHeld}
+use Rattle.effect_one.specs.Single.{idle}
+use Rattle.effect_one.specs.Formulas.{normalOne, drawn, granted, thenOne, timesOne, bothOne, atMostOne, heldAtMost, lowerHeld, coversHeld}
 use Rattle.effect.specs.declared.Stock.{Stock}
 use Rattle.effect.specs.declared.Effect.{Effect}
 unfoldable pub use Rattle.effect.specs.Apply.{applyOf}

@@ -1,11 +1,11 @@
 // Stocks and effects: six types, each with rights and a count.
-use single::Held;
-use single::One;
+use effect_one::Held;
+use effect_one::One;
 ghost use mathlib.Core.Path.{_≡_};
 ghost use Prim.Native.Nat.{_<_};
 ghost use lib.Dec.{eqb};
-ghost use Rattle.single.specs.Single.{applyOne};
-ghost use Rattle.single.specs.Formulas.{normalOne, thenOne, timesOne};
+ghost use Rattle.effect_one.specs.Single.{applyOne};
+ghost use Rattle.effect_one.specs.Formulas.{normalOne, thenOne, timesOne};
 ghost use Rattle.effect.specs.Six.{among, heldAt, oneAt, effectOf};
 ghost use Rattle.effect.specs.Whole.{normalOf, nothingDone, oneIf, drawOf, grantOf, applyOf, thenOf, timesOf};
 ghost use Rattle.effect.specs.Coordinate.{at};
@@ -71,28 +71,28 @@ fn normal_at(e: Effect, k: usize) -> bool
     requires { ⌜ k < 6 ⌝ }
     ensures { λ r. ⌜ r ≡ normalOne (oneAt e k) ⌝ }
 {
-    single::normal(one_at(e, k))
+    effect_one::normal(one_at(e, k))
 }
 
 fn applied_at(e: Effect, s: Stock, k: usize) -> Held
     requires { ⌜ k < 6 ⌝ }
     ensures { λ r. ⌜ r ≡ applyOne (oneAt e k) (heldAt s k) ⌝ }
 {
-    single::apply(one_at(e, k), held_at(s, k))
+    effect_one::apply(one_at(e, k), held_at(s, k))
 }
 
 fn then_at(a: Effect, b: Effect, k: usize) -> One
     requires { ⌜ k < 6 ⌝ }
     ensures { λ r. ⌜ r ≡ thenOne (oneAt a k) (oneAt b k) ⌝ }
 {
-    single::then(one_at(a, k), one_at(b, k))
+    effect_one::then(one_at(a, k), one_at(b, k))
 }
 
 fn times_at(e: Effect, n: usize, k: usize) -> One
     requires { ⌜ k < 6 ⌝ }
     ensures { λ r. ⌜ r ≡ timesOne (oneAt e k) n ⌝ }
 {
-    single::times(one_at(e, k), n)
+    effect_one::times(one_at(e, k), n)
 }
 
 // The effect x of type n.
@@ -121,7 +121,7 @@ pub fn nothing_done() -> Effect
     ensures equals { λ r. ⌜ r ≡ nothingDone ⌝ }
     ensures means { λ r. ⌜ Leaves r (λ i s. at i s) ⌝ }
 {
-    let x = single::nothing_done();
+    let x = effect_one::nothing_done();
     effect_of(x, x, x, x, x, x)
 }
 
@@ -130,7 +130,7 @@ pub fn draw(t: usize) -> Effect
     ensures equals { λ r. ⌜ r ≡ drawOf t ⌝ }
     ensures means { λ r. ⌜ Leaves r (λ i s. at i (oneTaken t s)) ⌝ }
 {
-    only(t, single::draw())
+    only(t, effect_one::draw())
 }
 
 // Rights and count of type t are replaced.
@@ -138,7 +138,7 @@ pub fn grant(t: usize, rights: u16, count: u16) -> Effect
     ensures equals { λ r. ⌜ r ≡ grantOf t rights count ⌝ }
     ensures means { λ r. ⌜ Leaves r (λ i s. at i (replaced t rights count s)) ⌝ }
 {
-    only(t, single::grant(rights, count))
+    only(t, effect_one::grant(rights, count))
 }
 
 // The effect is in normal form.

@@ -1,11 +1,11 @@
 // Which of two stocks or effects is at most the other, what fails, and the smaller of the two.
 use effect::Effect;
 use effect::Stock;
-use single::Held;
-use single::One;
+use effect_one::Held;
+use effect_one::One;
 ghost use mathlib.Core.Path.{_≡_};
 ghost use Prim.Native.Nat.{_<_, min};
-ghost use Rattle.single.specs.Formulas.{bothOne, atMostOne, heldAtMost, lowerHeld};
+ghost use Rattle.effect_one.specs.Formulas.{bothOne, atMostOne, heldAtMost, lowerHeld};
 ghost use Rattle.effect.specs.Six.{among, heldAt, oneAt};
 ghost use Rattle.effect.specs.Whole.{lowestNot, applyOf, bothOf, atMostOf, stockAtMostOf, failsOf, stockFailsOf, lowerOf, coversOf};
 ghost use Rattle.effect.specs.Coordinate.{Coordinate, at};
@@ -40,28 +40,28 @@ fn both_at(a: Effect, b: Effect, k: usize) -> One
     requires { ⌜ k < 6 ⌝ }
     ensures { λ r. ⌜ r ≡ bothOne (oneAt a k) (oneAt b k) ⌝ }
 {
-    single::both(effect::one_at(a, k), effect::one_at(b, k))
+    effect_one::both(effect::one_at(a, k), effect::one_at(b, k))
 }
 
 fn at_most_at(a: Effect, b: Effect, k: usize) -> bool
     requires { ⌜ k < 6 ⌝ }
     ensures { λ r. ⌜ r ≡ atMostOne (oneAt a k) (oneAt b k) ⌝ }
 {
-    single::at_most(effect::one_at(a, k), effect::one_at(b, k))
+    effect_one::at_most(effect::one_at(a, k), effect::one_at(b, k))
 }
 
 fn stock_at_most_at(s: Stock, t: Stock, k: usize) -> bool
     requires { ⌜ k < 6 ⌝ }
     ensures { λ r. ⌜ r ≡ heldAtMost (heldAt s k) (heldAt t k) ⌝ }
 {
-    single::stock_at_most(effect::held_at(s, k), effect::held_at(t, k))
+    effect_one::stock_at_most(effect::held_at(s, k), effect::held_at(t, k))
 }
 
 fn lower_at(s: Stock, t: Stock, k: usize) -> Held
     requires { ⌜ k < 6 ⌝ }
     ensures { λ r. ⌜ r ≡ lowerHeld (heldAt s k) (heldAt t k) ⌝ }
 {
-    single::lower(effect::held_at(s, k), effect::held_at(t, k))
+    effect_one::lower(effect::held_at(s, k), effect::held_at(t, k))
 }
 
 // The smaller of what two effects leave.
@@ -162,7 +162,7 @@ pub fn covers(s: Stock, t: usize, rights: u16) -> bool
     ensures means { λ r. ⌜ Exactly r (Covers s t rights) ⌝ }
 {
     if t < 6 {
-        return single::covers(effect::held_at(s, t), rights);
+        return effect_one::covers(effect::held_at(s, t), rights);
     }
     false
 }

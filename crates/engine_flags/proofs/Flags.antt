@@ -14,19 +14,19 @@ use Rattle.words.proofs.Four.{four-zero}
 use Rattle.words.proofs.Tests.{and-l, and-r}
 use lib.ListN.{length, getD, set, replicate, length-set, length-replicate}
 use lib.Seq.{getD-set-same, getD-set-other}
-use Rattle.tables.specs.declared.Tables.{Tables}
-use Rattle.tables.specs.declared.Table.{Table}
-use Rattle.tables.specs.declared.Table.the-variants.{Calls, Catches}
-use Rattle.tables.specs.Rows.{rowsOf}
-use Rattle.tables.specs.Fields.{nodeMethod, callNode, callMethod}
+use Rattle.graph_tables.specs.declared.Tables.{Tables}
+use Rattle.graph_tables.specs.declared.Table.{Table}
+use Rattle.graph_tables.specs.declared.Table.the-variants.{Calls, Catches}
+use Rattle.graph_tables.specs.Rows.{rowsOf}
+use Rattle.graph_tables.specs.Fields.{nodeMethod, callNode, callMethod}
 use Rattle.graph.specs.Judgement.{shapeOf}
-use Rattle.rows.specs.declared.Stretch.{Stretch}
-use Rattle.tables.specs.Family.{nearest}
-use Rattle.rows.specs.Rows.{Sorted, targetOf, catchKey, hasOwn}
-use Rattle.rows.proofs.Stretches.{to-within}
+use Rattle.graph_rows.specs.declared.Stretch.{Stretch}
+use Rattle.graph_tables.specs.Family.{nearest}
+use Rattle.graph_rows.specs.Rows.{Sorted, targetOf, catchKey, hasOwn}
+use Rattle.graph_rows.proofs.Stretches.{to-within}
 use Rattle.graph.proofs.Whole.{Limits}
-use Rattle.layout.specs.Layout.{sheetBytes}
-use Rattle.demand.specs.Demand.{turned}
+use Rattle.sheet_layout.specs.Layout.{sheetBytes}
+use Rattle.rule_ask.specs.Gives.{turned}
 use Rattle.engine_row.specs.Ready.{Ready}
 use Rattle.engine_row.proofs.Inside as inside
 use Rattle.engine_flags.specs.Flags.{Waits, Woken, Able, Awake, AllWait, LeavesWait, PassedOn, Clear}

@@ -8,17 +8,17 @@ use mathlib.Core.List.{List}
 use lib.Dec.{eqb}
 use lib.ListN.{length, getD}
 use Rattle.answer.specs.declared.Answer.the-variants.{Pass}
-use Rattle.tables.specs.declared.Tables.{Tables}
-use Rattle.tables.specs.declared.Table.{Table}
-use Rattle.tables.specs.declared.Table.the-variants.{Trailer, Methods, Nodes, Flow, Calls, Parents, Catches, Opening}
-use Rattle.tables.specs.Kinds.{returnKind, throwKind}
-use Rattle.tables.specs.Fields.{nodeMethod, nodeKind, nodeNumber, flowFrom, flowTo, callNode, callMethod}
-use Rattle.tables.specs.Trailer.{tablesOf}
+use Rattle.graph_tables.specs.declared.Tables.{Tables}
+use Rattle.graph_tables.specs.declared.Table.{Table}
+use Rattle.graph_tables.specs.declared.Table.the-variants.{Trailer, Methods, Nodes, Flow, Calls, Parents, Catches, Opening}
+use Rattle.graph_tables.specs.Kinds.{returnKind, throwKind}
+use Rattle.graph_tables.specs.Fields.{nodeMethod, nodeKind, nodeNumber, flowFrom, flowTo, callNode, callMethod}
+use Rattle.graph_tables.specs.Trailer.{tablesOf}
 use Rattle.graph.specs.Judge.{judgeIn}
-use Rattle.rows.specs.declared.Stretch.{Stretch}
-use Rattle.rows.specs.Rows.{flowOf, catchesOf, uncaughtOf, targetOf}
-use Rattle.rows.proofs.Stretches.{In}
-use Rattle.demand.specs.Demand.{turned}
+use Rattle.graph_rows.specs.declared.Stretch.{Stretch}
+use Rattle.graph_rows.specs.Rows.{flowOf, catchesOf, uncaughtOf, targetOf}
+use Rattle.graph_rows.proofs.Stretches.{In}
+use Rattle.rule_ask.specs.Gives.{turned}
 
 -- the flag i is set
 abbrev pub Waits : List ℕ → ℕ → Type 0

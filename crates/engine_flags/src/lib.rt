@@ -1,15 +1,15 @@
 // The area that is lent to the queue engine: which nodes are to be looked at again. Byte n: node n waits. 512 + m: an exit of method m was
 // lowered. 576 + m: its stock was.
-use rows::Stretch;
-use tables::Table;
-use tables::Tables;
+use graph_rows::Stretch;
+use graph_tables::Table;
+use graph_tables::Tables;
 ghost use mathlib.Core.Path.{_≡_};
 ghost use mathlib.Core.Bool.{true};
 ghost use Prim.Native.Nat.{ℕ, _+_, _<_, _≤_};
 ghost use lib.ListN.{length};
-ghost use Rattle.tables.specs.declared.Table.the-variants.{Calls};
-ghost use Rattle.tables.specs.Rows.{rowsOf};
-ghost use Rattle.tables.specs.Fields.{nodeMethod, callNode};
+ghost use Rattle.graph_tables.specs.declared.Table.the-variants.{Calls};
+ghost use Rattle.graph_tables.specs.Rows.{rowsOf};
+ghost use Rattle.graph_tables.specs.Fields.{nodeMethod, callNode};
 ghost use Rattle.engine_flags.specs.Flags.{Able, Waits, Woken, Awake, Forgot, AllWait, LeavesWait, EndWaits, CallWaits, RowWaits, PassedOn, Spread, Clear};
 
 // The flag i is set.
@@ -28,7 +28,7 @@ fn wake_each(f: &[u8], t: Tables, area: &mut [u8], table: Table, z: Stretch)
     let end = z.to;
     let mut j = z.from;
     while j < end {
-        wake(area, rows::target(f, t, table, j) as usize);
+        wake(area, graph_rows::target(f, t, table, j) as usize);
         j += 1;
     }
 }
@@ -38,7 +38,7 @@ fn wake_exits(f: &[u8], t: Tables, area: &mut [u8], n: u16)
     requires { ⌜ length (now area) ≡ 4096 ⌝ }
     ensures { λ _. ⌜ Woken (now (area .entry)) (now (area .exit)) × Waits (now (area .exit)) (512 + nodeMethod (now (f .entry)) t n) ⌝ }
 {
-    wake(area, 512 + tables::node_method(f, t, n) as usize);
+    wake(area, 512 + graph_tables::node_method(f, t, n) as usize);
 }
 
 // Where the exception e leads to at the node n: the catch rows that apply, or the exits of its method.
@@ -46,8 +46,8 @@ fn wake_leaving(f: &[u8], t: Tables, area: &mut [u8], n: u16, e: u16)
     requires { ⌜ Able (now f) t (now area) × (n < t .nodes) ⌝ }
     ensures { λ _. ⌜ Woken (now (area .entry)) (now (area .exit)) × LeavesWait (now (f .entry)) t (now (area .exit)) n e ⌝ }
 {
-    let handlers = rows::catches_of(f, t, n, e);
-    if rows::no_rows(handlers) {
+    let handlers = graph_rows::catches_of(f, t, n, e);
+    if graph_rows::no_rows(handlers) {
         wake_exits(f, t, area, n);
         return;
     }
@@ -75,11 +75,11 @@ fn wake_end(f: &[u8], t: Tables, area: &mut [u8], n: u16)
     requires { ⌜ Able (now f) t (now area) × (n < t .nodes) ⌝ }
     ensures { λ _. ⌜ Woken (now (area .entry)) (now (area .exit)) × EndWaits (now (f .entry)) t (now (area .exit)) n ⌝ }
 {
-    if tables::node_kind(f, t, n) == tables::RETURN {
+    if graph_tables::node_kind(f, t, n) == graph_tables::RETURN {
         wake_exits(f, t, area, n);
         return;
     }
-    wake_leaving(f, t, area, n, tables::node_number(f, t, n));
+    wake_leaving(f, t, area, n, graph_tables::node_number(f, t, n));
 }
 
 // Where call row k does.
@@ -87,9 +87,9 @@ fn wake_call(f: &[u8], t: Tables, area: &mut [u8], k: u16)
     requires { ⌜ Able (now f) t (now area) × (k < t .calls) ⌝ }
     ensures { λ _. ⌜ Woken (now (area .entry)) (now (area .exit)) × CallWaits (now (f .entry)) t (now (area .exit)) k ⌝ }
 {
-    let n = tables::call_node(f, t, k);
-    wake_each(f, t, area, Table::Flow, rows::flow_of(f, t, n));
-    wake(area, 576 + tables::call_method(f, t, k) as usize);
+    let n = graph_tables::call_node(f, t, k);
+    wake_each(f, t, area, Table::Flow, graph_rows::flow_of(f, t, n));
+    wake(area, 576 + graph_tables::call_method(f, t, k) as usize);
     wake_thrown(f, t, area, n);
 }
 
@@ -100,9 +100,9 @@ pub fn wake_row(f: &[u8], t: Tables, area: &mut [u8], table: Table, k: u16)
 {
     match table {
         Table::Trailer => {}
-        Table::Methods => wake(area, tables::entry(f, k) as usize),
+        Table::Methods => wake(area, graph_tables::entry(f, k) as usize),
         Table::Nodes => wake_end(f, t, area, k),
-        Table::Flow => wake(area, tables::flow_to(f, t, k) as usize),
+        Table::Flow => wake(area, graph_tables::flow_to(f, t, k) as usize),
         Table::Calls => wake_call(f, t, area, k),
         Table::Parents => {}
         Table::Catches => {}
@@ -115,9 +115,9 @@ fn pass_on(f: &[u8], t: Tables, area: &mut [u8], k: u16)
     requires { ⌜ Able (now f) t (now area) × (k < t .calls) ⌝ }
     ensures { λ _. ⌜ Woken (now (area .entry)) (now (area .exit)) × (Awake (now (f .entry)) t (now (area .entry)) Calls k → Waits (now (area .exit)) (callNode (now (f .entry)) t k)) ⌝ }
 {
-    let n = tables::call_node(f, t, k);
-    let called = 512 + tables::call_method(f, t, k) as usize;
-    let own = 576 + tables::node_method(f, t, n) as usize;
+    let n = graph_tables::call_node(f, t, k);
+    let called = 512 + graph_tables::call_method(f, t, k) as usize;
+    let own = 576 + graph_tables::node_method(f, t, n) as usize;
     if (area[called] == 0) & (area[own] == 0) {
         return;
     }
@@ -178,7 +178,7 @@ fn eight_clear(area: &[u8], backwards: bool, n: u16, j: u16) -> bool
     if n - j < 8 {
         return false;
     }
-    let i = demand::at_step(backwards, n, j) as usize;
+    let i = rule_ask::at_step(backwards, n, j) as usize;
     if backwards {
         return words::inner_four(area, i - 7) == 0;
     }
@@ -204,7 +204,7 @@ pub fn next(area: &[u8], backwards: bool, n: u16, k: u16) -> u16
 {
     let mut j = past_eights(area, backwards, n, k);
     while j < n {
-        if area[demand::at_step(backwards, n, j) as usize] != 0 {
+        if area[rule_ask::at_step(backwards, n, j) as usize] != 0 {
             return j;
         }
         j += 1;

@@ -8,22 +8,22 @@ use native.Mathlib.Decide.{decLt}
 use native.Mathlib.Omega.{arith}
 use lib.ListN.{length}
 use Rattle.answer.specs.declared.Answer.the-variants.{Pass}
-use Rattle.tables.specs.declared.Tables.{Tables}
-use Rattle.tables.specs.declared.Table.the-variants.{Methods}
-use Rattle.tables.specs.Trailer.{tablesOf}
+use Rattle.graph_tables.specs.declared.Tables.{Tables}
+use Rattle.graph_tables.specs.declared.Table.the-variants.{Methods}
+use Rattle.graph_tables.specs.Trailer.{tablesOf}
 use Rattle.graph.specs.Judge.{judgeIn, judgeOf}
 use Rattle.graph.specs.Judgement.{shapeOf}
-use Rattle.layout.specs.declared.Shape.{Shape}
-use Rattle.layout.specs.Layout.{methodAt, nodeAt, sheetBytes}
+use Rattle.sheet_layout.specs.declared.Shape.{Shape}
+use Rattle.sheet_layout.specs.Layout.{methodAt, nodeAt, sheetBytes}
 use Rattle.sheet.specs.Write.{blanked}
 use Rattle.sheet.proofs.Back.{blank-length}
 use Rattle.effect.specs.Whole.{nothingDone}
-use Rattle.tables.specs.Fields.{entryOf}
-use Rattle.nodes.specs.Nodes.{openingIn}
-use Rattle.demand.specs.Walk.{Ask, of-effect, of-stock, meets, startWalk, entryWalk}
-use Rattle.demand.proofs.Asks.{RowAsks, at-entry, Asks, at-start, of-row}
-use Rattle.lower.proofs.Good.{Good}
-use Rattle.lower.proofs.Block.{blank-good}
+use Rattle.graph_tables.specs.Fields.{entryOf}
+use Rattle.graph_nodes.specs.Nodes.{openingIn}
+use Rattle.rule_ask.specs.Walk.{Ask, of-effect, of-stock, meets, startWalk, entryWalk}
+use Rattle.rule_ask.proofs.Asks.{RowAsks, at-entry, Asks, at-start, of-row}
+use Rattle.engine_lower.proofs.Good.{Good}
+use Rattle.engine_lower.proofs.Block.{blank-good}
 use Rattle.engine_row.specs.Ready.{Ready}
 use Rattle.engine_row.specs.Lowers.{sheetOf, wroteOf, loweredTo, lowers}
 use Rattle.engine_row.proofs.Brought.{Brought, asks-brought}

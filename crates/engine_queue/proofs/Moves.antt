@@ -12,22 +12,22 @@ use borrow.Author.Tests.{eqb-true, leb-true}
 use Rattle.words.proofs.Tests.{and-l}
 use lib.ListN.{length, getD, set, length-set}
 use lib.Seq.{getD-set-same, getD-set-other}
-use Rattle.tables.specs.declared.Tables.{Tables}
-use Rattle.tables.specs.declared.Table.{Table}
-use Rattle.tables.specs.declared.Table.the-variants.{Trailer, Methods, Nodes, Flow, Calls, Parents, Catches, Opening}
-use Rattle.tables.specs.Rows.{rowsOf}
-use Rattle.tables.specs.Kinds.{drawKind, callKind, returnKind, throwKind}
-use Rattle.tables.specs.Fields.{nodeKind, nodeMethod, flowFrom, flowTo, callNode, callMethod}
-use Rattle.refuse.proofs.Fit.{flow-fit, call-fit}
-use Rattle.rows.specs.Rows.{flowOf, callsOf}
-use Rattle.rows.proofs.Stretches.{in-stretch, of-stretch}
+use Rattle.graph_tables.specs.declared.Tables.{Tables}
+use Rattle.graph_tables.specs.declared.Table.{Table}
+use Rattle.graph_tables.specs.declared.Table.the-variants.{Trailer, Methods, Nodes, Flow, Calls, Parents, Catches, Opening}
+use Rattle.graph_tables.specs.Rows.{rowsOf}
+use Rattle.graph_tables.specs.Kinds.{drawKind, callKind, returnKind, throwKind}
+use Rattle.graph_tables.specs.Fields.{nodeKind, nodeMethod, flowFrom, flowTo, callNode, callMethod}
+use Rattle.graph_refuse.proofs.Fit.{flow-fit, call-fit}
+use Rattle.graph_rows.specs.Rows.{flowOf, callsOf}
+use Rattle.graph_rows.proofs.Stretches.{in-stretch, of-stretch}
 use Rattle.graph.proofs.Passed.{judged}
-use Rattle.layout.specs.declared.Shape.{Shape}
-use Rattle.demand.specs.Demand.{turned, goesIn}
-use Rattle.demand.specs.Walk.{Ask, meets, rowWalk}
-use Rattle.demand.proofs.Asks.{RowAsks, at-entry, along-flow, at-return, at-throw, of-call, Asks, at-start, of-row}
-use Rattle.demand.proofs.Turned.{turned-inside, turned-twice}
-use Rattle.lower.proofs.Good.{height}
+use Rattle.sheet_layout.specs.declared.Shape.{Shape}
+use Rattle.rule_ask.specs.Gives.{turned, goesIn}
+use Rattle.rule_ask.specs.Walk.{Ask, meets, rowWalk}
+use Rattle.rule_ask.proofs.Asks.{RowAsks, at-entry, along-flow, at-return, at-throw, of-call, Asks, at-start, of-row}
+use Rattle.rule_ask.proofs.Turned.{turned-inside, turned-twice}
+use Rattle.engine_lower.proofs.Good.{height}
 use Rattle.engine_row.specs.Ready.{Ready}
 use Rattle.engine_row.specs.Lowers.{sheetOf, lowers}
 use Rattle.engine_row.proofs.Inside.{limit, sorted, method-of, call-node, call-method}

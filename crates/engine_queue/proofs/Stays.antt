@@ -10,21 +10,21 @@ use lib.Dec.{leb, eqb}
 use Rattle.effect.specs.declared.Effect.{Effect}
 use Rattle.effect.specs.Whole.{thenOf, applyOf}
 use Rattle.model.specs.Stocks.{stepOf}
-use Rattle.rounds.specs.Rounds.{roundsOf}
-use Rattle.tables.specs.declared.Tables.{Tables}
-use Rattle.tables.specs.declared.Table.{Table}
-use Rattle.tables.specs.declared.Table.the-variants.{Trailer, Methods, Nodes, Flow, Calls, Parents, Catches, Opening}
-use Rattle.tables.specs.Kinds.{drawKind}
-use Rattle.tables.specs.Fields.{nodeMethod, nodeKind, nodeCount, nodeNumber, flowFrom, flowTo, callNode, callMethod}
-use Rattle.nodes.specs.Nodes.{doesIn}
-use Rattle.layout.specs.declared.Shape.{Shape}
-use Rattle.layout.specs.Layout.{stockSize, effectSize, methodAt, exitAt, nodeAt}
+use Rattle.rule_rounds.specs.Rounds.{roundsOf}
+use Rattle.graph_tables.specs.declared.Tables.{Tables}
+use Rattle.graph_tables.specs.declared.Table.{Table}
+use Rattle.graph_tables.specs.declared.Table.the-variants.{Trailer, Methods, Nodes, Flow, Calls, Parents, Catches, Opening}
+use Rattle.graph_tables.specs.Kinds.{drawKind}
+use Rattle.graph_tables.specs.Fields.{nodeMethod, nodeKind, nodeCount, nodeNumber, flowFrom, flowTo, callNode, callMethod}
+use Rattle.graph_nodes.specs.Nodes.{doesIn}
+use Rattle.sheet_layout.specs.declared.Shape.{Shape}
+use Rattle.sheet_layout.specs.Layout.{stockSize, effectSize, methodAt, exitAt, nodeAt}
 use Rattle.sheet.specs.Read.{SameWords, marked, stockAt, effectAt}
 use Rattle.sheet.proofs.Same.{mark-same, stock-same, effect-same}
-use Rattle.demand.specs.declared.Called.{Called}
-use Rattle.demand.specs.Demand.{nodeEffect, exitEffect, goesIn, steppedIn, calledIn, thrownIn}
-use Rattle.demand.specs.Walk.{Ask, of-effect, of-stock}
-use Rattle.demand.proofs.Asks.{LeavingAsks, CallAsks, after-call, into-call, from-call, RowAsks, at-entry, along-flow, at-return, at-throw, of-call}
+use Rattle.rule_ask.specs.declared.Gives.{Gives}
+use Rattle.rule_ask.specs.Gives.{nodeEffect, exitEffect, goesIn, steppedIn, calledIn, thrownIn}
+use Rattle.rule_ask.specs.Walk.{Ask, of-effect, of-stock}
+use Rattle.rule_ask.proofs.Asks.{LeavingAsks, CallAsks, after-call, into-call, from-call, RowAsks, at-entry, along-flow, at-return, at-throw, of-call}
 
 module _ (f : List ℕ) (t : Tables) (x : Shape) (s r : List ℕ) where
   -- a node, an exit, a method stand as they were
@@ -88,7 +88,7 @@ module _ (f : List ℕ) (t : Tables) (x : Shape) (s r : List ℕ) where
       }
 
   -- a call that gave c
-  call-stays : (c : Called) → ((y : ℕ) → y < 9 → ExitSame (c .method) y) → MethodSame (nodeMethod f t (c .node)) → {a : Ask} → CallAsks f t x c r a → CallAsks f t x c s a
+  call-stays : (c : Gives) → ((y : ℕ) → y < 9 → ExitSame (c .method) y) → MethodSame (nodeMethod f t (c .node)) → {a : Ask} → CallAsks f t x c r a → CallAsks f t x c s a
   unfolding thrownIn
   call-stays c exits method (after-call j h i) = after-call j h i
   call-stays c exits method (into-call h) =

@@ -11,30 +11,30 @@ use lib.Dec.{eqb}
 use lib.ListN.{length}
 use borrow.Author.Tests.{eqb-true}
 use Rattle.answer.specs.declared.Answer.the-variants.{Pass}
-use Rattle.tables.specs.declared.Tables.{Tables}
-use Rattle.tables.specs.declared.Table.{Table}
-use Rattle.tables.specs.declared.Table.the-variants.{Trailer, Methods, Nodes, Flow, Calls, Parents, Catches, Opening}
-use Rattle.tables.specs.Rows.{rowsOf}
-use Rattle.tables.specs.Trailer.{tablesOf}
-use Rattle.tables.specs.Kinds.{throwKind}
-use Rattle.tables.specs.Fields.{nodeKind, nodeMethod, flowFrom, flowTo, callNode, callMethod, entryOf, nodeNumber}
-use Rattle.refuse.proofs.Fit.{node-fit, flow-fit, call-fit}
-use Rattle.rows.specs.Rows.{targetOf}
+use Rattle.graph_tables.specs.declared.Tables.{Tables}
+use Rattle.graph_tables.specs.declared.Table.{Table}
+use Rattle.graph_tables.specs.declared.Table.the-variants.{Trailer, Methods, Nodes, Flow, Calls, Parents, Catches, Opening}
+use Rattle.graph_tables.specs.Rows.{rowsOf}
+use Rattle.graph_tables.specs.Trailer.{tablesOf}
+use Rattle.graph_tables.specs.Kinds.{throwKind}
+use Rattle.graph_tables.specs.Fields.{nodeKind, nodeMethod, flowFrom, flowTo, callNode, callMethod, entryOf, nodeNumber}
+use Rattle.graph_refuse.proofs.Fit.{node-fit, flow-fit, call-fit}
+use Rattle.graph_rows.specs.Rows.{targetOf}
 use Rattle.graph.specs.Judge.{judgeOf}
 use Rattle.graph.specs.Judgement.{shapeOf}
 use Rattle.graph.proofs.Passed.{Judged, judged}
-use Rattle.layout.specs.declared.Shape.{Shape}
-use Rattle.layout.specs.Layout.{stockSize, effectSize, methodAt, exitAt, nodeAt, blockCount, blockSize, blockAt}
-use Rattle.layout.proofs.Blocks.{apart, size-pos, block-method, method-size, block-exit, exit-size, block-node, node-size}
-use Rattle.nodes.specs.Nodes.{openingIn}
+use Rattle.sheet_layout.specs.declared.Shape.{Shape}
+use Rattle.sheet_layout.specs.Layout.{stockSize, effectSize, methodAt, exitAt, nodeAt, blockCount, blockSize, blockAt}
+use Rattle.sheet_layout.proofs.Blocks.{apart, size-pos, block-method, method-size, block-exit, exit-size, block-node, node-size}
+use Rattle.graph_nodes.specs.Nodes.{openingIn}
 use Rattle.sheet.specs.Read.{SameWords}
 use Rattle.effect.specs.declared.Effect.{Effect}
-use Rattle.demand.specs.Demand.{nodeEffect, calledIn, thrownIn}
-use Rattle.demand.specs.Walk.{Ask, of-effect, of-stock, blockOf, meets, flowWalk, rowWalk}
-use Rattle.demand.proofs.Asks.{LeavingAsks, to-handler, to-exit, CallAsks, after-call, into-call, from-call, RowAsks, at-entry, along-flow, at-return, at-throw, of-call, Asks, at-start, of-row}
-use Rattle.demand.proofs.Keeps.{own-keeps}
-use Rattle.demand.proofs.Shows.{row-shows}
-use Rattle.lower.proofs.Good.{Good, Done, height}
+use Rattle.rule_ask.specs.Gives.{nodeEffect, calledIn, thrownIn}
+use Rattle.rule_ask.specs.Walk.{Ask, of-effect, of-stock, blockOf, meets, flowWalk, rowWalk}
+use Rattle.rule_ask.proofs.Asks.{LeavingAsks, to-handler, to-exit, CallAsks, after-call, into-call, from-call, RowAsks, at-entry, along-flow, at-return, at-throw, of-call, Asks, at-start, of-row}
+use Rattle.rule_ask.proofs.Keeps.{own-keeps}
+use Rattle.rule_ask.proofs.Shows.{row-shows}
+use Rattle.engine_lower.proofs.Good.{Good, Done, height}
 use Rattle.engine_row.specs.Ready.{Ready}
 use Rattle.engine_row.specs.Lowers.{State, sheetOf, wroteOf, loweredTo, lowers}
 use Rattle.engine_row.proofs.Brought.{Brought, asks-brought}

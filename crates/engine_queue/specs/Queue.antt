@@ -6,20 +6,20 @@ use mathlib.Core.Bool.{Bool, true, false}
 use mathlib.Core.List.{List}
 use lib.ListN.{length, getD}
 use Rattle.answer.specs.declared.Answer.the-variants.{Pass}
-use Rattle.tables.specs.declared.Tables.{Tables}
-use Rattle.tables.specs.declared.Table.{Table}
-use Rattle.tables.specs.declared.Table.the-variants.{Methods, Nodes, Flow, Calls}
-use Rattle.tables.specs.Rows.{rowsOf}
-use Rattle.tables.specs.Fields.{flowFrom, flowTo, callNode}
+use Rattle.graph_tables.specs.declared.Tables.{Tables}
+use Rattle.graph_tables.specs.declared.Table.{Table}
+use Rattle.graph_tables.specs.declared.Table.the-variants.{Methods, Nodes, Flow, Calls}
+use Rattle.graph_tables.specs.Rows.{rowsOf}
+use Rattle.graph_tables.specs.Fields.{flowFrom, flowTo, callNode}
 use Rattle.graph.specs.Judge.{judgeOf}
-use Rattle.nodes.specs.Nodes.{openingIn}
-use Rattle.layout.specs.declared.Shape.{Shape}
-use Rattle.layout.specs.Layout.{effectSize, methodAt, nodeAt}
+use Rattle.graph_nodes.specs.Nodes.{openingIn}
+use Rattle.sheet_layout.specs.declared.Shape.{Shape}
+use Rattle.sheet_layout.specs.Layout.{effectSize, methodAt, nodeAt}
 use Rattle.sheet.specs.Read.{SameWords}
-use Rattle.demand.specs.Walk.{Ask, of-stock, meets}
-use Rattle.demand.specs.Demand.{turned}
-use Rattle.demand.proofs.Asks.{RowAsks, Asks}
-use Rattle.lower.proofs.Good.{Good, height}
+use Rattle.rule_ask.specs.Walk.{Ask, of-stock, meets}
+use Rattle.rule_ask.specs.Gives.{turned}
+use Rattle.rule_ask.proofs.Asks.{RowAsks, Asks}
+use Rattle.engine_lower.proofs.Good.{Good, height}
 use Rattle.engine_row.specs.Ready.{Ready}
 use Rattle.engine_flags.specs.Flags.{Awake}
 

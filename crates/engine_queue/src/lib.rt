@@ -1,15 +1,15 @@
 // The queue engine: nodes whose rows may ask something new wait in the lent area, and only those are looked at.
-use layout::Shape;
-use rows::Stretch;
-use tables::Table;
-use tables::Tables;
+use graph_rows::Stretch;
+use graph_tables::Table;
+use graph_tables::Tables;
+use sheet_layout::Shape;
 ghost use mathlib.Core.Path.{_≡_};
 ghost use Prim.Native.Nat.{ℕ, _<_, _≤_};
 ghost use lib.ListN.{length};
 ghost use mathlib.Core.Bool.{false};
-ghost use Rattle.tables.specs.Rows.{rowsOf};
-ghost use Rattle.tables.specs.Kinds.{drawKind, callKind};
-ghost use Rattle.tables.specs.Fields.{nodeKind, flowTo};
+ghost use Rattle.graph_tables.specs.Rows.{rowsOf};
+ghost use Rattle.graph_tables.specs.Kinds.{drawKind, callKind};
+ghost use Rattle.graph_tables.specs.Fields.{nodeKind, flowTo};
 ghost use Rattle.sheet.specs.Write.{blanked};
 ghost use Rattle.engine_row.specs.Ready.{Ready};
 ghost use Rattle.engine_queue.specs.Queue.{Queue, RowMoved, StretchMoved, NodeMoved, Visited, Passing, Round, Entered, Settled};
@@ -57,8 +57,16 @@ fn of_node(f: &[u8], t: Tables, x: Shape, s: &mut [u8], area: &mut [u8], n: u16)
     requires { ⌜ Queue (now f) t x (now s) (now area) × (n < t .nodes) × (drawKind < nodeKind (now f) t n) ⌝ }
     ensures { λ r. ⌜ NodeMoved (now (f .entry)) t x n (now (s .entry)) (now (area .entry)) (now (s .exit)) (now (area .exit)) r ⌝ }
 {
-    if tables::node_kind(f, t, n) == tables::CALL {
-        return each(f, t, x, s, area, Table::Calls, rows::calls_of(f, t, n));
+    if graph_tables::node_kind(f, t, n) == graph_tables::CALL {
+        return each(
+            f,
+            t,
+            x,
+            s,
+            area,
+            Table::Calls,
+            graph_rows::calls_of(f, t, n),
+        );
     }
     row(f, t, x, s, area, Table::Nodes, n)
 }
@@ -70,7 +78,7 @@ fn leads_back(f: &[u8], t: Tables, n: u16, z: Stretch) -> bool
     let end = z.to;
     let mut j = z.from;
     while j < end {
-        if tables::flow_to(f, t, j) == n {
+        if graph_tables::flow_to(f, t, j) == n {
             return true;
         }
         j += 1;
@@ -84,7 +92,7 @@ fn visit_plain(f: &[u8], t: Tables, x: Shape, s: &mut [u8], area: &mut [u8], n: 
     requires { ⌜ Queue (now f) t x (now s) (now area) × (n < t .nodes) × (nodeKind (now f) t n < callKind) ⌝ }
     ensures { λ r. ⌜ Visited (now (f .entry)) t x n (now (s .entry)) (now (area .entry)) (now (s .exit)) (now (area .exit)) r ⌝ }
 {
-    let z = rows::flow_of(f, t, n);
+    let z = graph_rows::flow_of(f, t, n);
     let wrote = each(f, t, x, s, area, Table::Flow, z);
     let back = leads_back(f, t, n, z);
     if wrote & back {
@@ -99,7 +107,7 @@ fn visit(f: &[u8], t: Tables, x: Shape, s: &mut [u8], area: &mut [u8], n: u16) -
     requires { ⌜ Queue (now f) t x (now s) (now area) × (n < t .nodes) ⌝ }
     ensures { λ r. ⌜ Visited (now (f .entry)) t x n (now (s .entry)) (now (area .entry)) (now (s .exit)) (now (area .exit)) r ⌝ }
 {
-    if tables::node_kind(f, t, n) < tables::CALL {
+    if graph_tables::node_kind(f, t, n) < graph_tables::CALL {
         return visit_plain(f, t, x, s, area, n);
     }
     if of_node(f, t, x, s, area, n) {
@@ -118,7 +126,7 @@ fn pass(f: &[u8], t: Tables, x: Shape, s: &mut [u8], area: &mut [u8], backwards:
     let mut wrote = false;
     let mut k = engine_flags::next(area, backwards, n, 0);
     while k < n {
-        let one = visit(f, t, x, s, area, demand::at_step(backwards, n, k));
+        let one = visit(f, t, x, s, area, rule_ask::at_step(backwards, n, k));
         wrote = wrote | one;
         k = engine_flags::next(area, backwards, n, k + 1);
     }

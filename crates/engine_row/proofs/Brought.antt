@@ -21,15 +21,15 @@ use Rattle.model.specs.Stocks.{permits, stepOf}
 use Rattle.model.proofs.Setting.{Setting}
 use Rattle.model.proofs.Attained.{Attained, MethodHit, NodeHit, ExitHit}
 use Rattle.model.proofs.Brought as brought
-use Rattle.tables.specs.declared.Tables.{Tables}
-use Rattle.tables.specs.declared.Table.{Table}
-use Rattle.tables.specs.declared.Table.the-variants.{Flow}
-use Rattle.tables.specs.Rows.{rowsOf}
-use Rattle.tables.specs.Trailer.{tablesOf}
-use Rattle.tables.specs.Kinds.{drawKind}
-use Rattle.tables.specs.Fields.{entryOf, nodeMethod, nodeKind, nodeNumber, nodeCount, flowFrom, flowTo, callNode, callMethod, catchTo}
-use Rattle.refuse.proofs.Fit.{entry-fit, node-fit, flow-fit, call-fit, catch-fit}
-use Rattle.rows.proofs.Stretches.{of-stretch}
+use Rattle.graph_tables.specs.declared.Tables.{Tables}
+use Rattle.graph_tables.specs.declared.Table.{Table}
+use Rattle.graph_tables.specs.declared.Table.the-variants.{Flow}
+use Rattle.graph_tables.specs.Rows.{rowsOf}
+use Rattle.graph_tables.specs.Trailer.{tablesOf}
+use Rattle.graph_tables.specs.Kinds.{drawKind}
+use Rattle.graph_tables.specs.Fields.{entryOf, nodeMethod, nodeKind, nodeNumber, nodeCount, flowFrom, flowTo, callNode, callMethod, catchTo}
+use Rattle.graph_refuse.proofs.Fit.{entry-fit, node-fit, flow-fit, call-fit, catch-fit}
+use Rattle.graph_rows.proofs.Stretches.{of-stretch}
 use Rattle.graph.specs.Judge.{judgeOf}
 use Rattle.graph.specs.Judgement.{shapeOf}
 use Rattle.graph.specs.Graph.{graphOf}
@@ -37,20 +37,20 @@ use Rattle.graph.proofs.Passed.{Judged, judged}
 use Rattle.graph.proofs.Whole.{limits}
 use Rattle.graph.proofs.Rises.{rises}
 use Rattle.graph.proofs.Caught.{of-catches, uncaught-true}
-use Rattle.nodes.specs.Nodes.{doesIn, openingIn}
-use Rattle.nodes.proofs.Setting.{setting}
-use Rattle.layout.specs.declared.Shape.{Shape}
-use Rattle.layout.specs.Layout.{methodAt, exitAt, nodeAt}
+use Rattle.graph_nodes.specs.Nodes.{doesIn, openingIn}
+use Rattle.graph_nodes.proofs.Setting.{setting}
+use Rattle.sheet_layout.specs.declared.Shape.{Shape}
+use Rattle.sheet_layout.specs.Layout.{methodAt, exitAt, nodeAt}
 use Rattle.sheet.specs.Read.{marked}
 use Rattle.sheet.proofs.Marked.{mark-true, true-mark}
-use Rattle.formed.specs.Sheet.{sheetIn}
-use Rattle.demand.specs.declared.Called.{Called}
-use Rattle.demand.specs.Demand.{goesIn, steppedIn, calledIn}
-use Rattle.demand.specs.Walk.{Ask, of-effect, of-stock}
-use Rattle.demand.proofs.Given as given
-use Rattle.demand.proofs.Asks.{LeavingAsks, to-handler, to-exit, CallAsks, after-call, into-call, from-call, RowAsks, at-entry, along-flow, at-return, at-throw, of-call, Asks, at-start, of-row}
-use Rattle.lower.proofs.Good.{Stands, StockStands, Good}
-use Rattle.lower.proofs.Stands.{nothing-stands, then-stands, apply-stands, whole-rounds-stands, earlier-rounds-stands, step-stands, opening-stands, read-stands, exit-read-stands, stock-read-stands}
+use Rattle.sheet_formed.specs.Sheet.{sheetIn}
+use Rattle.rule_ask.specs.declared.Gives.{Gives}
+use Rattle.rule_ask.specs.Gives.{goesIn, steppedIn, calledIn}
+use Rattle.rule_ask.specs.Walk.{Ask, of-effect, of-stock}
+use Rattle.rule_ask.proofs.Given as given
+use Rattle.rule_ask.proofs.Asks.{LeavingAsks, to-handler, to-exit, CallAsks, after-call, into-call, from-call, RowAsks, at-entry, along-flow, at-return, at-throw, of-call, Asks, at-start, of-row}
+use Rattle.engine_lower.proofs.Good.{Stands, StockStands, Good}
+use Rattle.engine_lower.proofs.Stands.{nothing-stands, then-stands, apply-stands, whole-rounds-stands, earlier-rounds-stands, step-stands, opening-stands, read-stands, exit-read-stands, stock-read-stands}
 use Rattle.engine_row.proofs.Mixed.{mixed, attained-mixed}
 
 module _ (f : List ℕ) (pass : judgeOf f ≡ Pass) where

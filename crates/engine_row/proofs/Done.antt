@@ -6,13 +6,13 @@ use mathlib.Core.Bool.{Bool, true, false, not, _||_, true≢false, false≢true}
 use mathlib.Core.List.{List}
 use native.Mathlib.Omega.{arith}
 use Rattle.answer.specs.declared.Answer.the-variants.{Pass}
-use Rattle.tables.specs.Trailer.{tablesOf}
+use Rattle.graph_tables.specs.Trailer.{tablesOf}
 use Rattle.graph.specs.Judge.{judgeOf}
 use Rattle.graph.specs.Judgement.{shapeOf}
-use Rattle.layout.specs.declared.Shape.{Shape}
-use Rattle.demand.specs.Walk.{Ask, meets}
-use Rattle.lower.proofs.Good.{Good, Done}
-use Rattle.lower.proofs.Block.{node-done, exit-done, method-done}
+use Rattle.sheet_layout.specs.declared.Shape.{Shape}
+use Rattle.rule_ask.specs.Walk.{Ask, meets}
+use Rattle.engine_lower.proofs.Good.{Good, Done}
+use Rattle.engine_lower.proofs.Block.{node-done, exit-done, method-done}
 use Rattle.engine_row.specs.Lowers.{loweredTo}
 use Rattle.engine_row.proofs.Brought.{Brought, of-node, of-exit, of-method}
 

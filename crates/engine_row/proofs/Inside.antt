@@ -4,22 +4,22 @@ use mathlib.Core.Path.{_≡_, sym, ap, subst, _∙_}
 use mathlib.Core.List.{List}
 use native.Mathlib.Omega.{arith}
 use lib.ListN.{length}
-use Rattle.tables.specs.declared.Tables.{Tables}
-use Rattle.tables.specs.declared.Table.{Table}
-use Rattle.tables.specs.declared.Table.the-variants.{Trailer, Methods, Nodes, Flow, Calls, Parents, Catches, Opening}
-use Rattle.tables.specs.Rows.{rowsOf}
-use Rattle.tables.specs.Kinds.{throwKind}
-use Rattle.tables.specs.Fields.{nodeMethod, nodeKind, nodeNumber, callNode, callMethod}
-use Rattle.refuse.proofs.Fit.{entry-fit, node-fit, flow-fit, call-fit, catch-fit}
+use Rattle.graph_tables.specs.declared.Tables.{Tables}
+use Rattle.graph_tables.specs.declared.Table.{Table}
+use Rattle.graph_tables.specs.declared.Table.the-variants.{Trailer, Methods, Nodes, Flow, Calls, Parents, Catches, Opening}
+use Rattle.graph_tables.specs.Rows.{rowsOf}
+use Rattle.graph_tables.specs.Kinds.{throwKind}
+use Rattle.graph_tables.specs.Fields.{nodeMethod, nodeKind, nodeNumber, callNode, callMethod}
+use Rattle.graph_refuse.proofs.Fit.{entry-fit, node-fit, flow-fit, call-fit, catch-fit}
 use Rattle.answer.specs.declared.Answer.the-variants.{Pass}
 use Rattle.graph.specs.Judge.{judgeIn}
 use Rattle.graph.proofs.Passed.{judged}
 use Rattle.graph.proofs.Whole.{Limits, limits}
 use Rattle.graph.proofs.Rises.{rises}
-use Rattle.rows.specs.Rows.{Sorted, targetOf}
-use Rattle.layout.specs.declared.Shape.{Shape}
-use Rattle.layout.specs.Layout.{stockSize, effectSize, methodAt, exitAt, nodeAt, sheetBytes, blockCount, blockSize, blockAt}
-use Rattle.layout.proofs.Blocks.{inside, block-method, method-size, block-exit, exit-size, block-node, node-size}
+use Rattle.graph_rows.specs.Rows.{Sorted, targetOf}
+use Rattle.sheet_layout.specs.declared.Shape.{Shape}
+use Rattle.sheet_layout.specs.Layout.{stockSize, effectSize, methodAt, exitAt, nodeAt, sheetBytes, blockCount, blockSize, blockAt}
+use Rattle.sheet_layout.proofs.Blocks.{inside, block-method, method-size, block-exit, exit-size, block-node, node-size}
 use Rattle.engine_row.specs.Ready.{Ready}
 
 module _ {f : List ℕ} {t : Tables} {x : Shape} {s : List ℕ} (r : Ready f t x s) where

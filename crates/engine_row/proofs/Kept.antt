@@ -18,13 +18,13 @@ use Rattle.effect.specs.Whole.{atMostOf, stockAtMostOf, bothOf, lowerOf}
 use Rattle.effect.proofs.Single.{below-refl, below-trans}
 use Rattle.effect.specs.Six.{heldAt}
 use Rattle.effect.proofs.Laws.{at-most-refl, at-most-trans, both-left, both-right, EachBelow, stock-sound, stock-complete, lower-comm, lower-below}
-use Rattle.tables.specs.declared.Tables.{Tables}
-use Rattle.tables.specs.Trailer.{tablesOf}
+use Rattle.graph_tables.specs.declared.Tables.{Tables}
+use Rattle.graph_tables.specs.Trailer.{tablesOf}
 use Rattle.graph.specs.Judge.{judgeOf}
 use Rattle.graph.specs.Judgement.{shapeOf}
-use Rattle.layout.specs.declared.Shape.{Shape}
-use Rattle.layout.specs.Layout.{stockSize, effectSize, methodAt, exitAt, nodeAt, blockCount, blockSize, blockAt, isStock}
-use Rattle.layout.proofs.Blocks.{stock-size, effect-size, size-pos, block-method, block-exit, block-node}
+use Rattle.sheet_layout.specs.declared.Shape.{Shape}
+use Rattle.sheet_layout.specs.Layout.{stockSize, effectSize, methodAt, exitAt, nodeAt, blockCount, blockSize, blockAt, isStock}
+use Rattle.sheet_layout.proofs.Blocks.{stock-size, effect-size, size-pos, block-method, block-exit, block-node}
 use Rattle.sheet.specs.Read.{SameWords, markAt, stockAt, effectAt, marked}
 use Rattle.sheet.specs.Write.{stockWord, effectWord, stockBytes, effectBytes}
 use Rattle.sheet.specs.Under.{effectUnder, stockUnder}
@@ -32,11 +32,11 @@ use Rattle.sheet.proofs.Same.{mark-same, stock-same, effect-same}
 use Rattle.sheet.proofs.Back.{stock-marked, stock-back, effect-marked, effect-back}
 use Rattle.sheet.proofs.Marked.{mark-true, true-mark}
 use Rattle.sheet.proofs.Potential.{block-fits, other-block}
-use Rattle.demand.specs.Walk.{Ask, of-effect, of-stock, meets}
-use Rattle.lower.specs.Lower.{effectTo, stockTo}
-use Rattle.lower.proofs.Good.{Stands, StockStands, Good}
-use Rattle.lower.proofs.Numbers.{method-stock, node-effect, exit-effect}
-use Rattle.lower.proofs.Stands.{both-stands, lower-stands, block-stands, stock-block-stands}
+use Rattle.rule_ask.specs.Walk.{Ask, of-effect, of-stock, meets}
+use Rattle.engine_lower.specs.Lower.{effectTo, stockTo}
+use Rattle.engine_lower.proofs.Good.{Stands, StockStands, Good}
+use Rattle.engine_lower.proofs.Numbers.{method-stock, node-effect, exit-effect}
+use Rattle.engine_lower.proofs.Stands.{both-stands, lower-stands, block-stands, stock-block-stands}
 use Rattle.engine_row.specs.Lowers.{loweredTo}
 use Rattle.engine_row.proofs.Brought.{Brought, of-node, of-exit, of-method}
 

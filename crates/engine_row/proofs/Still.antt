@@ -5,9 +5,9 @@ use mathlib.Core.Logic.{_⊎_, inl, inr}
 use mathlib.Core.Bool.{Bool, true, false}
 use mathlib.Core.List.{List}
 use Prim.Native.Nat.{ℕ}
-use Rattle.layout.specs.declared.Shape.{Shape}
-use Rattle.demand.specs.Walk.{Ask, of-effect, of-stock, meets}
-use Rattle.lower.specs.Lower.{effectTo, stockTo}
+use Rattle.sheet_layout.specs.declared.Shape.{Shape}
+use Rattle.rule_ask.specs.Walk.{Ask, of-effect, of-stock, meets}
+use Rattle.engine_lower.specs.Lower.{effectTo, stockTo}
 use Rattle.engine_row.specs.Lowers.{State, sheetOf, wroteOf, loweredTo, lowers}
 
 module _ (x : Shape) (s : List ℕ) where

@@ -2,9 +2,9 @@
 use Prim.Native.Nat.{ℕ}
 use mathlib.Core.Bool.{Bool, not, _||_}
 use mathlib.Core.List.{List}
-use Rattle.layout.specs.declared.Shape.{Shape}
-use Rattle.demand.specs.Walk.{Ask, of-effect, of-stock, meets}
-use Rattle.lower.specs.Lower.{effectTo, stockTo}
+use Rattle.sheet_layout.specs.declared.Shape.{Shape}
+use Rattle.rule_ask.specs.Walk.{Ask, of-effect, of-stock, meets}
+use Rattle.engine_lower.specs.Lower.{effectTo, stockTo}
 
 -- the sheet so far, and whether anything was written
 abbrev pub State : Type 0

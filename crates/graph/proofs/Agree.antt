@@ -15,15 +15,15 @@ use Rattle.answer.specs.declared.Answer.{Answer}
 use Rattle.answer.specs.declared.Answer.the-variants.{Pass, TooShort, BadCount, BadLength, BadEntry, BadFlow, BadCall, BadParent, BadCatch, BadOpening}
 use Rattle.answer.specs.Number.{numberOf, typeOf, placeOf, lineOf, Says}
 use Rattle.answer.proofs.Unpack.{zero-pass}
-use Rattle.tables.specs.declared.Tables.{Tables}
-use Rattle.tables.specs.Trailer.{tablesOf}
-use Rattle.tables.specs.Fields.{entryOf, nodeNumber, parentOf, flowFrom, flowTo, callNode, catchFrom, catchException, catchTo}
-use Rattle.tables.specs.Family.{climb, nearest}
-use Rattle.refuse.specs.Bad.{notAbove, flowRow, callRow, catchRow, countBad, lengthBad, entryBad, nodeBad, flowBad, callBad, parentBad, kin, throwsOther, catchBad, uncalled, openingBad}
+use Rattle.graph_tables.specs.declared.Tables.{Tables}
+use Rattle.graph_tables.specs.Trailer.{tablesOf}
+use Rattle.graph_tables.specs.Fields.{entryOf, nodeNumber, parentOf, flowFrom, flowTo, callNode, catchFrom, catchException, catchTo}
+use Rattle.graph_tables.specs.Family.{climb, nearest}
+use Rattle.graph_refuse.specs.Bad.{notAbove, flowRow, callRow, catchRow, countBad, lengthBad, entryBad, nodeBad, flowBad, callBad, parentBad, kin, throwsOther, catchBad, uncalled, openingBad}
 use Rattle.graph_places.specs.Places.{badNodeAt, noCallRowAt}
 use Rattle.graph_scan.specs.Scan.{refused}
 use Rattle.graph.specs.Judge.{judgeRows, judgeIn, judgeOf}
-use Rattle.tables.proofs.SameRows.{SameRows, SameOpening, SameFields, same-counts, same-tables, same-fields, same-parents, same-opening-count}
+use Rattle.graph_tables.proofs.SameRows.{SameRows, SameOpening, SameFields, same-counts, same-tables, same-fields, same-parents, same-opening-count}
 
 -- two answers with the same number, the same type and the same place
 pub record Agree (a b : Answer) : Type 0 where

@@ -4,13 +4,13 @@ use mathlib.Core.Path.{refl, sym, subst, _∙_}
 use mathlib.Core.List.{List}
 use native.Mathlib.Omega.{arith}
 use Rattle.model.proofs.Alike.{Alike}
-use Rattle.tables.specs.declared.Tables.{Tables}
-use Rattle.tables.specs.Trailer.{tablesOf}
-use Rattle.tables.specs.Kinds.{drawKind}
-use Rattle.tables.specs.Family.{own, above}
-use Rattle.rows.specs.Family.{HasRow, Applies}
+use Rattle.graph_tables.specs.declared.Tables.{Tables}
+use Rattle.graph_tables.specs.Trailer.{tablesOf}
+use Rattle.graph_tables.specs.Kinds.{drawKind}
+use Rattle.graph_tables.specs.Family.{own, above}
+use Rattle.graph_rows.specs.Family.{HasRow, Applies}
 use Rattle.graph.specs.Graph.{FamilyRow, OfKind, graphIn, graphOf}
-use Rattle.tables.proofs.SameRows.{SameRows, SameFields, same-tables, same-fields, fields-sym}
+use Rattle.graph_tables.proofs.SameRows.{SameRows, SameFields, same-tables, same-fields, fields-sym}
 
 -- the same catch rows apply
 module _ (f g : List ℕ) (t : Tables) (S : SameFields f g t) where

@@ -6,14 +6,14 @@ use Prim.Native.Nat.{ℕ, _<_, _≤_}
 use native.Mathlib.Omega.{arith}
 use borrow.Author.Tests.{leb-true, leb-false}
 use Rattle.model.specs.Machine.{Uncaught}
-use Rattle.tables.specs.declared.Tables.{Tables}
-use Rattle.tables.specs.declared.Table.the-variants.{Catches}
-use Rattle.tables.specs.Fields.{catchFrom, catchException, catchTo}
-use Rattle.rows.specs.Rows.{catchesOf, uncaughtOf}
-use Rattle.rows.specs.Family.{Applies}
-use Rattle.rows.proofs.Stretches.{In}
-use Rattle.rows.proofs.Families as families
-use Rattle.refuse.proofs.Fit.{catch-fit}
+use Rattle.graph_tables.specs.declared.Tables.{Tables}
+use Rattle.graph_tables.specs.declared.Table.the-variants.{Catches}
+use Rattle.graph_tables.specs.Fields.{catchFrom, catchException, catchTo}
+use Rattle.graph_rows.specs.Rows.{catchesOf, uncaughtOf}
+use Rattle.graph_rows.specs.Family.{Applies}
+use Rattle.graph_rows.proofs.Stretches.{In}
+use Rattle.graph_rows.proofs.Families as families
+use Rattle.graph_refuse.proofs.Fit.{catch-fit}
 use Rattle.graph.specs.Graph.{FamilyRow, graphIn}
 use Rattle.graph.proofs.Passed.{Judged}
 use Rattle.graph.proofs.Rises.{rises}

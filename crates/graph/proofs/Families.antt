@@ -8,12 +8,12 @@ use Prim.Native.Nat.{ℕ, _<_}
 use native.Mathlib.Omega.{arith}
 use lib.Dec.{eqb}
 use borrow.Author.Tests.{eqb-true, eqb-false}
-use Rattle.tables.specs.declared.Tables.{Tables}
-use Rattle.tables.specs.Fields.{parentOf, catchException}
-use Rattle.tables.specs.Family.{own, above}
-use Rattle.refuse.specs.Bad.{kin}
-use Rattle.refuse.proofs.Fit.{Kin, kin-says, says-kin}
-use Rattle.rows.specs.Family.{Applies}
+use Rattle.graph_tables.specs.declared.Tables.{Tables}
+use Rattle.graph_tables.specs.Fields.{parentOf, catchException}
+use Rattle.graph_tables.specs.Family.{own, above}
+use Rattle.graph_refuse.specs.Bad.{kin}
+use Rattle.graph_refuse.proofs.Fit.{Kin, kin-says, says-kin}
+use Rattle.graph_rows.specs.Family.{Applies}
 use Rattle.graph.specs.Graph.{CatchRow, graphIn}
 
 module _ (f : List ℕ) (t : Tables) (n e : ℕ) (small : e < 8) (none : parentOf f t e ≡ 255) where

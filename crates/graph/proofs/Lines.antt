@@ -11,10 +11,10 @@ use Rattle.words.specs.Lowest.{lowest}
 use Rattle.answer.specs.declared.Answer.{Answer}
 use Rattle.answer.specs.declared.Answer.the-variants.{TooShort, BadCount, BadLength}
 use Rattle.answer.specs.Number.{numberOf}
-use Rattle.tables.specs.Trailer.{trailerAt, tablesOf}
-use Rattle.tables.proofs.SameRows.{Read, of-methods, of-node, of-rows, of-trailer, SameRows, SameOpening}
-use Rattle.refuse.specs.Bad.{countBad, lengthBad}
-use Rattle.refuse.proofs.Fit.{length-fit}
+use Rattle.graph_tables.specs.Trailer.{trailerAt, tablesOf}
+use Rattle.graph_tables.proofs.SameRows.{Read, of-methods, of-node, of-rows, of-trailer, SameRows, SameOpening}
+use Rattle.graph_refuse.specs.Bad.{countBad, lengthBad}
+use Rattle.graph_refuse.proofs.Fit.{length-fit}
 use Rattle.graph.specs.Judge.{judgeIn, judgeOf}
 use Rattle.graph.specs.Lines.{OfLine, SameButLines}
 

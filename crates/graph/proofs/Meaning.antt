@@ -15,9 +15,9 @@ use Rattle.answer.specs.declared.Answer.{Answer}
 use Rattle.answer.specs.declared.Answer.the-variants.{Pass, TooShort, BadCount, BadLength, BadEntry, BadNode, BadFlow, BadCall, BadCatch, BadOpening, BadParent, NoCallRow}
 use Rattle.answer.specs.Number.{placeOf}
 use Rattle.answer.proofs.Settled.{says-only, says}
-use Rattle.tables.specs.declared.Tables.{Tables}
-use Rattle.tables.specs.Trailer.{tablesOf}
-use Rattle.refuse.specs.Bad.{countBad, lengthBad, entryBad, nodeBad, flowBad, callBad, parentBad, catchBad, uncalled, openingBad}
+use Rattle.graph_tables.specs.declared.Tables.{Tables}
+use Rattle.graph_tables.specs.Trailer.{tablesOf}
+use Rattle.graph_refuse.specs.Bad.{countBad, lengthBad, entryBad, nodeBad, flowBad, callBad, parentBad, catchBad, uncalled, openingBad}
 use Rattle.graph_places.specs.Places.{badNodeAt, noCallRowAt}
 use Rattle.graph_scan.specs.Scan.{refused}
 use Rattle.graph.specs.Judge.{judgeRows, judgeIn, judgeOf}

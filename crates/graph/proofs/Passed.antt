@@ -13,8 +13,8 @@ use Rattle.words.proofs.Lowest.{NoneBelow, none-found}
 use Rattle.answer.specs.declared.Answer.{Answer}
 use Rattle.answer.specs.declared.Answer.the-variants.{Pass, TooShort, BadCount, BadLength, BadEntry, BadFlow, BadCall, BadParent, BadCatch, BadOpening}
 use Rattle.answer.specs.Number.{numberOf}
-use Rattle.tables.specs.declared.Tables.{Tables}
-use Rattle.refuse.specs.Bad.{countBad, lengthBad, entryBad, nodeBad, flowBad, callBad, parentBad, catchBad, uncalled, openingBad}
+use Rattle.graph_tables.specs.declared.Tables.{Tables}
+use Rattle.graph_refuse.specs.Bad.{countBad, lengthBad, entryBad, nodeBad, flowBad, callBad, parentBad, catchBad, uncalled, openingBad}
 use Rattle.graph_places.specs.Places.{badNodeAt, noCallRowAt}
 use Rattle.graph_scan.specs.Scan.{refused}
 use Rattle.graph.specs.Judge.{judgeRows, judgeIn}

@@ -7,13 +7,13 @@ use Prim.Native.Nat.{ℕ, zero, suc, _-_, _<_, _≤_}
 use native.Mathlib.Omega.{arith}
 use lib.Dec.{leb}
 use borrow.Author.Tests.{leb-true, leb-false}
-use Rattle.tables.specs.declared.Tables.{Tables}
-use Rattle.tables.specs.declared.Table.the-variants.{Trailer, Methods, Nodes, Flow, Calls, Parents, Catches, Opening}
-use Rattle.tables.specs.Fields.{flowFrom, callNode}
-use Rattle.rows.specs.Rows.{keyOf, Sorted}
-use Rattle.refuse.proofs.Fit.{flow-rises, call-rises, catch-fit, catch-rises}
+use Rattle.graph_tables.specs.declared.Tables.{Tables}
+use Rattle.graph_tables.specs.declared.Table.the-variants.{Trailer, Methods, Nodes, Flow, Calls, Parents, Catches, Opening}
+use Rattle.graph_tables.specs.Fields.{flowFrom, callNode}
+use Rattle.graph_rows.specs.Rows.{keyOf, Sorted}
+use Rattle.graph_refuse.proofs.Fit.{flow-rises, call-rises, catch-fit, catch-rises}
 use Rattle.words.proofs.Lowest.{NoneBelow}
-use Rattle.refuse.specs.Bad.{flowBad, callBad, catchBad}
+use Rattle.graph_refuse.specs.Bad.{flowBad, callBad, catchBad}
 use Rattle.graph.proofs.Passed.{Judged}
 
 -- from one row to the next is enough

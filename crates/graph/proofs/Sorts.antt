@@ -7,12 +7,12 @@ use Prim.Native.Nat.{ℕ, _<_}
 use native.Mathlib.Omega.{arith}
 use lib.Dec.{leb, eqb}
 use borrow.Author.Tests.{leb-true, leb-false, eqb-true, eqb-false}
-use Rattle.tables.specs.declared.Tables.{Tables}
-use Rattle.tables.specs.Kinds.{drawKind, callKind, returnKind, throwKind}
-use Rattle.tables.specs.Fields.{nodeKind, nodeNumber}
+use Rattle.graph_tables.specs.declared.Tables.{Tables}
+use Rattle.graph_tables.specs.Kinds.{drawKind, callKind, returnKind, throwKind}
+use Rattle.graph_tables.specs.Fields.{nodeKind, nodeNumber}
 use Rattle.graph.specs.Graph.{graphIn}
 use Rattle.graph.proofs.Passed.{Judged}
-use Rattle.refuse.proofs.Fit.{node-fit}
+use Rattle.graph_refuse.proofs.Fit.{node-fit}
 
 module _ (f : List ℕ) (t : Tables) (n : ℕ) (l : n < t .nodes) where
   pub goes : leb (nodeKind f t n) drawKind ≡ true → graphIn f t .Goes n

@@ -13,12 +13,12 @@ use Rattle.answer.specs.declared.Answer.{Answer}
 use Rattle.answer.specs.declared.Answer.the-variants.{Pass, BadEntry, BadFlow, BadCall, BadParent, BadCatch, BadOpening}
 use Rattle.answer.specs.Number.{numberOf}
 use Rattle.answer.proofs.Unpack.{zero-pass}
-use Rattle.tables.specs.declared.Tables.{Tables}
-use Rattle.tables.specs.declared.Table.the-variants.{Calls}
-use Rattle.tables.specs.Fields.{callNode}
-use Rattle.refuse.specs.Bad.{named, uncalled, entryBad, nodeBad, flowBad, callBad, parentBad, catchBad, openingBad}
-use Rattle.rows.specs.Rows.{Rises, Sorted, callsOf, noRows}
-use Rattle.rows.proofs.Stretches.{in-stretch, of-stretch}
+use Rattle.graph_tables.specs.declared.Tables.{Tables}
+use Rattle.graph_tables.specs.declared.Table.the-variants.{Calls}
+use Rattle.graph_tables.specs.Fields.{callNode}
+use Rattle.graph_refuse.specs.Bad.{named, uncalled, entryBad, nodeBad, flowBad, callBad, parentBad, catchBad, openingBad}
+use Rattle.graph_rows.specs.Rows.{Rises, Sorted, callsOf, noRows}
+use Rattle.graph_rows.proofs.Stretches.{in-stretch, of-stretch}
 use Rattle.graph_places.specs.Places.{badNodeAt, noCallRowAt}
 use Rattle.graph.specs.Judge.{judgeRows}
 use Rattle.graph_scan.specs.Scan.{refused, judgeTables}

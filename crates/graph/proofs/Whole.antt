@@ -15,17 +15,17 @@ use Rattle.answer.specs.declared.Answer.the-variants.{Pass, BadCount, BadLength
 use Rattle.answer.specs.Number.{numberOf}
 use Rattle.answer.proofs.Unpack.{zero-pass}
 use Rattle.model.proofs.Formed.{Formed}
-use Rattle.tables.specs.declared.Tables.{Tables}
-use Rattle.tables.specs.Trailer.{trailer, tablesOf}
-use Rattle.tables.specs.Fields.{callMethod}
-use Rattle.layout.specs.Layout.{Within}
+use Rattle.graph_tables.specs.declared.Tables.{Tables}
+use Rattle.graph_tables.specs.Trailer.{trailer, tablesOf}
+use Rattle.graph_tables.specs.Fields.{callMethod}
+use Rattle.sheet_layout.specs.Layout.{Within}
 use Rattle.graph.specs.Judge.{judgeIn, judgeOf}
 use Rattle.graph.specs.Judgement.{shapeOf, noShape, shapeFor, judgedOf}
 use Rattle.graph.specs.Graph.{graphOf}
 use Rattle.graph.proofs.Passed.{judged}
-use Rattle.tables.proofs.Counts.{methods-are, nodes-are, flows-are, calls-are, catches-are, types-are, end-is}
-use Rattle.refuse.specs.Bad.{fewest, most, countBad, lengthBad}
-use Rattle.refuse.proofs.Fit.{count-fit, length-fit, entry-fit, node-fit, flow-fit, call-fit, catch-fit, call-named}
+use Rattle.graph_tables.proofs.Counts.{methods-are, nodes-are, flows-are, calls-are, catches-are, types-are, end-is}
+use Rattle.graph_refuse.specs.Bad.{fewest, most, countBad, lengthBad}
+use Rattle.graph_refuse.proofs.Fit.{count-fit, length-fit, entry-fit, node-fit, flow-fit, call-fit, catch-fit, call-named}
 
 -- the limits of the counts
 pub record Limits (t : Tables) : Type 0 where

@@ -3,11 +3,11 @@ use mathlib.Core.Path.{_≡_}
 use mathlib.Core.List.{List}
 use Prim.Native.Nat.{ℕ, _<_, _≤_}
 use Rattle.model.specs.Machine.{Graph}
-use Rattle.tables.specs.declared.Tables.{Tables}
-use Rattle.tables.specs.Trailer.{tablesOf}
-use Rattle.tables.specs.Kinds.{drawKind, callKind, returnKind, throwKind}
-use Rattle.tables.specs.Fields.{entryOf, nodeMethod, nodeKind, nodeNumber, nodeCount, flowFrom, flowTo, callNode, callMethod, catchFrom, catchException, catchTo}
-use Rattle.rows.specs.Family.{Applies}
+use Rattle.graph_tables.specs.declared.Tables.{Tables}
+use Rattle.graph_tables.specs.Trailer.{tablesOf}
+use Rattle.graph_tables.specs.Kinds.{drawKind, callKind, returnKind, throwKind}
+use Rattle.graph_tables.specs.Fields.{entryOf, nodeMethod, nodeKind, nodeNumber, nodeCount, flowFrom, flowTo, callNode, callMethod, catchFrom, catchException, catchTo}
+use Rattle.graph_rows.specs.Family.{Applies}
 
 -- some row of the flow, of the calls, of the catches says so
 abbrev pub FlowRow : List ℕ → Tables → ℕ → ℕ → Type 0

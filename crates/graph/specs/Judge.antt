@@ -6,11 +6,11 @@ use lib.ListN.{length}
 use lib.Dec.{ltb}
 use Rattle.answer.specs.declared.Answer.{Answer}
 use Rattle.answer.specs.declared.Answer.the-variants.{Pass, TooShort, BadCount, BadLength, BadEntry, BadFlow, BadCall, BadParent, BadCatch, BadOpening}
-use Rattle.tables.specs.declared.Tables.{Tables}
-use Rattle.tables.specs.Trailer.{tablesOf}
+use Rattle.graph_tables.specs.declared.Tables.{Tables}
+use Rattle.graph_tables.specs.Trailer.{tablesOf}
 use Rattle.graph_places.specs.Places.{badNodeAt, noCallRowAt}
 use Rattle.graph_scan.specs.Scan.{refused}
-use Rattle.refuse.specs.Bad.{countBad, lengthBad, entryBad, nodeBad, flowBad, callBad, parentBad, catchBad, uncalled, openingBad}
+use Rattle.graph_refuse.specs.Bad.{countBad, lengthBad, entryBad, nodeBad, flowBad, callBad, parentBad, catchBad, uncalled, openingBad}
 
 -- The first that applies, in this order, for a file whose trailer says t: 4 to 7, 15, 8, 17, 9,
 unfoldable pub judgeRows : List ℕ → Tables → Answer

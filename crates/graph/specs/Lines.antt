@@ -6,7 +6,7 @@ use mathlib.Core.List.{List}
 use lib.ListN.{length}
 use Rattle.words.specs.Bytes.{byteAt}
 use Rattle.answer.specs.Number.{numberOf}
-use Rattle.tables.specs.Trailer.{tablesOf}
+use Rattle.graph_tables.specs.Trailer.{tablesOf}
 use Rattle.graph.specs.Judge.{judgeOf}
 
 -- the byte p is one of the last two of some node's eight

@@ -10,10 +10,10 @@ use Rattle.words.specs.Lowest.{lowest}
 use Rattle.answer.specs.declared.Answer.{Answer}
 use Rattle.answer.specs.declared.Answer.the-variants.{TooShort, BadCount, BadLength, BadEntry, BadNode, BadFlow, BadCall, BadCatch, BadOpening, BadParent, NoCallRow}
 use Rattle.answer.specs.Number.{numberOf, placeOf, Says}
-use Rattle.tables.specs.declared.Tables.{Tables}
-use Rattle.tables.specs.Trailer.{tablesOf}
-use Rattle.tables.specs.Fields.{nodeLine}
-use Rattle.refuse.specs.Bad.{countBad, lengthBad, entryBad, nodeBad, flowBad, callBad, parentBad, catchBad, uncalled, openingBad}
+use Rattle.graph_tables.specs.declared.Tables.{Tables}
+use Rattle.graph_tables.specs.Trailer.{tablesOf}
+use Rattle.graph_tables.specs.Fields.{nodeLine}
+use Rattle.graph_refuse.specs.Bad.{countBad, lengthBad, entryBad, nodeBad, flowBad, callBad, parentBad, catchBad, uncalled, openingBad}
 
 -- "Given when": the refusal applies to a file whose trailer says t; one that names a node has its line
 pub data Given (f : List ℕ) (t : Tables) : Answer → Type 0 where

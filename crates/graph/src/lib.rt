@@ -1,13 +1,13 @@
 // The judgement of a graph file: answers 1 to 9, 15 and 17.
 use answer::Answer;
-use layout::Shape;
-use tables::Table;
-use tables::Tables;
+use graph_tables::Table;
+use graph_tables::Tables;
+use sheet_layout::Shape;
 ghost use mathlib.Core.Path.{_≡_};
 ghost use Rattle.words.specs.Lowest.{lowest};
-ghost use Rattle.refuse.specs.Bad.{uncalled};
-ghost use Rattle.rows.specs.Rows.{Sorted};
-ghost use Rattle.layout.specs.Layout.{Within};
+ghost use Rattle.graph_refuse.specs.Bad.{uncalled};
+ghost use Rattle.graph_rows.specs.Rows.{Sorted};
+ghost use Rattle.sheet_layout.specs.Layout.{Within};
 ghost use Rattle.graph.specs.Judge.{judgeRows, judgeIn};
 ghost use Rattle.graph.specs.Judgement.{shapeFor, judgedOf};
 ghost use Rattle.graph.specs.Meaning.{Judges};
@@ -24,10 +24,10 @@ fn uncalled(f: &[u8], t: Tables, n: u16) -> bool
     requires { ⌜ Sorted (now f) t ⌝ }
     ensures { λ r. ⌜ r ≡ uncalled (now (f .entry)) t n ⌝ }
 {
-    if tables::node_kind(f, t, n) != tables::CALL {
+    if graph_tables::node_kind(f, t, n) != graph_tables::CALL {
         return false;
     }
-    rows::no_rows(rows::calls_of(f, t, n))
+    graph_rows::no_rows(graph_rows::calls_of(f, t, n))
 }
 
 // The lowest such node, or how many nodes there are.
@@ -66,7 +66,7 @@ fn judge(f: &[u8], t: Tables) -> Answer
     if f.len() < 14 {
         return Answer::TooShort;
     }
-    if refuse::length_bad(f, t) {
+    if graph_refuse::length_bad(f, t) {
         return graph_scan::refused(f, t, Table::Trailer, Answer::BadLength);
     }
     graph_scan::refused(f, t, Table::Trailer, judge_rows(f, t))

@@ -1,9 +1,9 @@
 // Which rows of the flow, the calls and the catches are refused: the tests behind answers 6, 7 and 8.
-use tables::Tables;
+use graph_tables::Tables;
 ghost use mathlib.Core.Path.{_≡_};
 ghost use mathlib.Core.Bool.{_||_, _&&_};
 ghost use lib.Dec.{ltb, eqb};
-ghost use Rattle.refuse.specs.Bad.{notAbove, flowRow, callRow, catchRow, flowBad, callBad, kin, throwsOther, catchBad};
+ghost use Rattle.graph_refuse.specs.Bad.{notAbove, flowRow, callRow, catchRow, flowBad, callBad, kin, throwsOther, catchBad};
 
 // Row fields are compared from the last to the first: a is above b, or they are equal and the rest is above.
 fn above(a: u16, b: u16, rest: bool) -> bool
@@ -19,13 +19,13 @@ fn flow_not_above(f: &[u8], t: Tables, k: u16) -> bool
         return false;
     }
     let to = above(
-        tables::flow_to(f, t, k),
-        tables::flow_to(f, t, k - 1),
+        graph_tables::flow_to(f, t, k),
+        graph_tables::flow_to(f, t, k - 1),
         false,
     );
     !above(
-        tables::flow_from(f, t, k),
-        tables::flow_from(f, t, k - 1),
+        graph_tables::flow_from(f, t, k),
+        graph_tables::flow_from(f, t, k - 1),
         to,
     )
 }
@@ -33,16 +33,16 @@ fn flow_not_above(f: &[u8], t: Tables, k: u16) -> bool
 pub fn flow_bad(f: &[u8], t: Tables, k: u16) -> bool
     ensures { λ r. ⌜ r ≡ flowBad (now (f .entry)) t k ⌝ }
 {
-    let from = tables::flow_from(f, t, k);
-    let to = tables::flow_to(f, t, k);
-    let kind = tables::node_kind(f, t, from);
-    let a = tables::node_method(f, t, from);
-    let b = tables::node_method(f, t, to);
+    let from = graph_tables::flow_from(f, t, k);
+    let to = graph_tables::flow_to(f, t, k);
+    let kind = graph_tables::node_kind(f, t, from);
+    let a = graph_tables::node_method(f, t, from);
+    let b = graph_tables::node_method(f, t, to);
     let falls = flow_not_above(f, t, k);
     (t.nodes <= from)
         | (t.nodes <= to)
-        | (kind == tables::RETURN)
-        | (kind == tables::THROW)
+        | (kind == graph_tables::RETURN)
+        | (kind == graph_tables::THROW)
         | (a != b)
         | falls
 }
@@ -54,13 +54,13 @@ fn call_not_above(f: &[u8], t: Tables, k: u16) -> bool
         return false;
     }
     let method = above(
-        tables::call_method(f, t, k),
-        tables::call_method(f, t, k - 1),
+        graph_tables::call_method(f, t, k),
+        graph_tables::call_method(f, t, k - 1),
         false,
     );
     !above(
-        tables::call_node(f, t, k),
-        tables::call_node(f, t, k - 1),
+        graph_tables::call_node(f, t, k),
+        graph_tables::call_node(f, t, k - 1),
         method,
     )
 }
@@ -68,11 +68,11 @@ fn call_not_above(f: &[u8], t: Tables, k: u16) -> bool
 pub fn call_bad(f: &[u8], t: Tables, k: u16) -> bool
     ensures { λ r. ⌜ r ≡ callBad (now (f .entry)) t k ⌝ }
 {
-    let node = tables::call_node(f, t, k);
-    let method = tables::call_method(f, t, k);
-    let kind = tables::node_kind(f, t, node);
+    let node = graph_tables::call_node(f, t, k);
+    let method = graph_tables::call_method(f, t, k);
+    let kind = graph_tables::node_kind(f, t, node);
     let falls = call_not_above(f, t, k);
-    (t.nodes <= node) | (kind != tables::CALL) | (t.methods <= method) | falls
+    (t.nodes <= node) | (kind != graph_tables::CALL) | (t.methods <= method) | falls
 }
 
 fn catch_not_above(f: &[u8], t: Tables, k: u16) -> bool
@@ -82,18 +82,18 @@ fn catch_not_above(f: &[u8], t: Tables, k: u16) -> bool
         return false;
     }
     let to = above(
-        tables::catch_to(f, t, k),
-        tables::catch_to(f, t, k - 1),
+        graph_tables::catch_to(f, t, k),
+        graph_tables::catch_to(f, t, k - 1),
         false,
     );
     let exception = above(
-        tables::catch_exception(f, t, k),
-        tables::catch_exception(f, t, k - 1),
+        graph_tables::catch_exception(f, t, k),
+        graph_tables::catch_exception(f, t, k - 1),
         to,
     );
     !above(
-        tables::catch_from(f, t, k),
-        tables::catch_from(f, t, k - 1),
+        graph_tables::catch_from(f, t, k),
+        graph_tables::catch_from(f, t, k - 1),
         exception,
     )
 }
@@ -104,7 +104,7 @@ fn kin(f: &[u8], t: Tables, e: u16, c: u16) -> bool
 {
     let mut kind = e;
     while kind != c {
-        let parent = tables::parent(f, t, kind);
+        let parent = graph_tables::parent(f, t, kind);
         if kind <= parent {
             return false;
         }
@@ -116,25 +116,25 @@ fn kin(f: &[u8], t: Tables, e: u16, c: u16) -> bool
 fn throws_other(f: &[u8], t: Tables, n: u16, exception: u16) -> bool
     ensures { λ r. ⌜ r ≡ throwsOther (now (f .entry)) t n exception ⌝ }
 {
-    let kind = tables::node_kind(f, t, n);
-    if kind == tables::CALL {
+    let kind = graph_tables::node_kind(f, t, n);
+    if kind == graph_tables::CALL {
         return false;
     }
-    if kind != tables::THROW {
+    if kind != graph_tables::THROW {
         return true;
     }
-    !kin(f, t, tables::node_number(f, t, n), exception)
+    !kin(f, t, graph_tables::node_number(f, t, n), exception)
 }
 
 pub fn catch_bad(f: &[u8], t: Tables, k: u16) -> bool
     ensures { λ r. ⌜ r ≡ catchBad (now (f .entry)) t k ⌝ }
 {
-    let from = tables::catch_from(f, t, k);
-    let exception = tables::catch_exception(f, t, k);
-    let to = tables::catch_to(f, t, k);
+    let from = graph_tables::catch_from(f, t, k);
+    let exception = graph_tables::catch_exception(f, t, k);
+    let to = graph_tables::catch_to(f, t, k);
     let other = throws_other(f, t, from, exception);
-    let a = tables::node_method(f, t, from);
-    let b = tables::node_method(f, t, to);
+    let a = graph_tables::node_method(f, t, from);
+    let b = graph_tables::node_method(f, t, to);
     let falls = catch_not_above(f, t, k);
     (t.nodes <= from) | (t.nodes <= to) | (7 < exception) | other | (a != b) | falls
 }

@@ -3,8 +3,8 @@ use Prim.Native.Nat.{ℕ}
 use mathlib.Core.List.{List}
 use Rattle.answer.specs.declared.Answer.{Answer}
 use Rattle.answer.specs.declared.Answer.the-variants.{BadNode, Overdrawn, Unfit, NoCallRow}
-use Rattle.tables.specs.declared.Tables.{Tables}
-use Rattle.tables.specs.Fields.{nodeNumber, nodeLine}
+use Rattle.graph_tables.specs.declared.Tables.{Tables}
+use Rattle.graph_tables.specs.Fields.{nodeNumber, nodeLine}
 
 -- 5: row k of the nodes is refused
 abbrev pub badNodeAt : List ℕ → Tables → ℕ → Answer

@@ -6,11 +6,11 @@ use lib.Dec.{ltb}
 use Rattle.words.specs.Lowest.{lowest}
 use Rattle.answer.specs.declared.Answer.{Answer}
 use Rattle.answer.specs.declared.Answer.the-variants.{BadCount, BadEntry, BadFlow, BadCall, BadParent, BadCatch, BadOpening}
-use Rattle.tables.specs.declared.Tables.{Tables}
-use Rattle.tables.specs.declared.Table.{Table}
-use Rattle.tables.specs.declared.Table.the-variants.{Trailer, Methods, Nodes, Flow, Calls, Parents, Catches, Opening}
+use Rattle.graph_tables.specs.declared.Tables.{Tables}
+use Rattle.graph_tables.specs.declared.Table.{Table}
+use Rattle.graph_tables.specs.declared.Table.the-variants.{Trailer, Methods, Nodes, Flow, Calls, Parents, Catches, Opening}
 use Rattle.graph_places.specs.Places.{badNodeAt}
-use Rattle.refuse.specs.Bad.{countBad, entryBad, nodeBad, flowBad, callBad, parentBad, catchBad, openingBad}
+use Rattle.graph_refuse.specs.Bad.{countBad, entryBad, nodeBad, flowBad, callBad, parentBad, catchBad, openingBad}
 
 -- within a table the lowest row; where no row is refused, what comes next
 abbrev pub refused : (ℕ → Bool) → ℕ → (ℕ → Answer) → Answer → Answer

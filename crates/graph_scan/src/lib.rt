@@ -1,25 +1,25 @@
 // The tables of a graph file, looked at one after the other: which row is refused, and with which answer.
 use answer::Answer;
-use tables::Table;
-use tables::Tables;
+use graph_tables::Table;
+use graph_tables::Tables;
 ghost use mathlib.Core.Path.{_≡_};
 ghost use Rattle.words.specs.Lowest.{lowest};
 ghost use Rattle.answer.specs.declared.Answer.the-variants.{Pass};
-ghost use Rattle.tables.specs.Rows.{rowsOf};
+ghost use Rattle.graph_tables.specs.Rows.{rowsOf};
 ghost use Rattle.graph_scan.specs.Scan.{refused, rowBad, badRow, judgeTables};
 
 fn row_bad(f: &[u8], t: Tables, table: Table, k: u16) -> bool
     ensures { λ r. ⌜ r ≡ rowBad (now (f .entry)) t table k ⌝ }
 {
     match table {
-        Table::Trailer => refuse::count_bad(f, k),
-        Table::Methods => refuse::entry_bad(f, t, k),
-        Table::Nodes => refuse::node_bad(f, t, k),
+        Table::Trailer => graph_refuse::count_bad(f, k),
+        Table::Methods => graph_refuse::entry_bad(f, t, k),
+        Table::Nodes => graph_refuse::node_bad(f, t, k),
         Table::Flow => graph_edges::flow_bad(f, t, k),
         Table::Calls => graph_edges::call_bad(f, t, k),
-        Table::Parents => refuse::parent_bad(f, t, k),
+        Table::Parents => graph_refuse::parent_bad(f, t, k),
         Table::Catches => graph_edges::catch_bad(f, t, k),
-        Table::Opening => refuse::opening_bad(f, t, k),
+        Table::Opening => graph_refuse::opening_bad(f, t, k),
     }
 }
 
@@ -27,7 +27,7 @@ fn row_bad(f: &[u8], t: Tables, table: Table, k: u16) -> bool
 fn lowest_bad(f: &[u8], t: Tables, table: Table) -> u16
     ensures { λ r. ⌜ r ≡ lowest (rowBad (now (f .entry)) t table) (rowsOf t table) ⌝ }
 {
-    let n = tables::rows(t, table);
+    let n = graph_tables::rows(t, table);
     let mut k = 0;
     while k < n {
         if row_bad(f, t, table, k) {
@@ -59,7 +59,7 @@ pub fn refused(f: &[u8], t: Tables, table: Table, next: Answer) -> Answer
     ensures { λ r. ⌜ r ≡ refused (rowBad (now (f .entry)) t table) (rowsOf t table) (badRow (now (f .entry)) t table) next ⌝ }
 {
     let k = lowest_bad(f, t, table);
-    if k < tables::rows(t, table) {
+    if k < graph_tables::rows(t, table) {
         return bad_row(f, t, table, k);
     }
     next

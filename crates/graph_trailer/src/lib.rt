@@ -1,8 +1,8 @@
 // The trailer of a graph file, and the tables that it says.
-use tables::Tables;
+use graph_tables::Tables;
 ghost use mathlib.Core.Path.{_≡_};
 ghost use Prim.Native.Nat.{_<_};
-ghost use Rattle.tables.specs.Trailer.{trailerAt, trailer, tablesOf};
+ghost use Rattle.graph_tables.specs.Trailer.{trailerAt, trailer, tablesOf};
 
 // Where the trailer starts.
 fn trailer_at(f: &[u8]) -> usize

@@ -1,41 +1,57 @@
-// What a sheet says of a node, as the verdict and the listing ask for it.
-use effect::Stock;
-use layout::Shape;
-use tables::Tables;
+// The listing of a graph file, worked out and written as text into a lent output.
+use answer::Answer;
+use graph::Judgement;
 ghost use mathlib.Core.Path.{_≡_};
-ghost use Rattle.effect.specs.Whole.{coversOf};
-ghost use Rattle.listing.specs.Node.{isReached, nodeStock};
+ghost use Prim.Native.Nat.{_≤_};
+ghost use lib.ListN.{length};
+ghost use Rattle.graph.specs.Judgement.{judgedOf};
+ghost use Rattle.sheet_layout.specs.Layout.{Within};
+ghost use Rattle.listing.specs.Lists.{textOf, padded, Lists};
 
-// The sheet calls node n reached: the node is marked, and so is its method.
-pub fn reached(f: &[u8], t: Tables, x: Shape, s: &[u8], n: u16) -> bool
-    ensures { λ r. ⌜ r ≡ isReached (now (f .entry)) t x (now (s .entry)) n ⌝ }
-{
-    let w = layout::node_at(x, n);
-    let v = layout::method_at(x, tables::node_method(f, t, n));
-    sheet::is_marked(s, w) & sheet::is_marked(s, v)
+// No listing has more than 46,102 bytes, and a 0 stands behind it.
+pub const ROOM: usize = 46103;
+
+pub struct Reply {
+    pub answer: Answer,
+    pub length: usize,
 }
 
-// The stock of node n: its effect applied to the stock of its method. Of a node that is not reached it says nothing.
-pub fn stock(f: &[u8], t: Tables, x: Shape, s: &[u8], n: u16) -> Stock
-    ensures { λ r. ⌜ r ≡ nodeStock (now (f .entry)) t x (now (s .entry)) n ⌝ }
+// The listing of the answer a and the sheet s, and 0 behind it; what comes back is its length.
+fn tell(f: &[u8], j: Judgement, s: &[u8], a: Answer, out: &mut [u8]) -> usize
+    requires { ⌜ (j ≡ judgedOf (now f)) × Within (j .shape) × (length (textOf (now f) a (now s)) ≤ length (now out)) ⌝ }
+    ensures { λ r. ⌜ (now (out .exit) ≡ padded (textOf (now (f .entry)) a (now (s .entry))) (length (now (out .entry)))) × (r ≡ length (textOf (now (f .entry)) a (now (s .entry)))) ⌝ }
 {
-    let w = layout::node_at(x, n);
-    let v = layout::method_at(x, tables::node_method(f, t, n));
-    effect::apply(sheet::effect(s, x.types, w), sheet::stock(s, x.types, v))
+    let t = j.tables;
+    let x = j.shape;
+    sheet::blank(out);
+    listing_text::put_listing(out, 0, a, f, t, x, s)
 }
 
-// That stock covers a draw of type k: only that type is read.
-pub fn covers(f: &[u8], t: Tables, x: Shape, s: &[u8], n: u16, k: usize, rights: u16) -> bool
-    ensures { λ r. ⌜ r ≡ coversOf (nodeStock (now (f .entry)) t x (now (s .entry)) n) k rights ⌝ }
+// The listing of a file that has been judged, so that whoever lends the sheet judges it once.
+pub fn of_judged(f: &[u8], j: Judgement, s: &mut [u8], out: &mut [u8]) -> Reply
+    requires { ⌜ (j ≡ judgedOf (now f)) × Within (j .shape) × (46103 ≤ length (now out)) ⌝ }
+    ensures { λ r. ⌜ Lists (now (f .entry)) (now (s .entry)) (now (s .exit)) (now (out .entry)) (now (out .exit)) (r .answer) (r .length) ⌝ }
 {
-    if k < 6 {
-        let at = layout::node_at(x, n);
-        let from = layout::method_at(x, tables::node_method(f, t, n));
-        let held = single::apply(
-            sheet::one(s, x.types, at, k),
-            sheet::held(s, x.types, from, k),
-        );
-        return single::covers(held, rights);
+    let mut area = [0u8; 4096];
+    let a = work_queued::of_judged(f, j, s, &mut area);
+    let n = tell(f, j, s, a, out);
+    Reply {
+        answer: a,
+        length: n,
     }
-    false
+}
+
+// The file f is worked out in the sheet s, and the listing of what was found is written. An output that is shorter than `ROOM`
+// is refused before all else.
+pub fn list(f: &[u8], s: &mut [u8], out: &mut [u8]) -> Reply
+    ensures { λ r. ⌜ Lists (now (f .entry)) (now (s .entry)) (now (s .exit)) (now (out .entry)) (now (out .exit)) (r .answer) (r .length) ⌝ }
+{
+    if out.len() < ROOM {
+        return Reply {
+            answer: Answer::OutputShort,
+            length: 0,
+        };
+    }
+    let j = graph::judged(f);
+    of_judged(f, j, s, out)
 }

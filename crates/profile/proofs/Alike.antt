@@ -6,15 +6,15 @@ use mathlib.Core.List.{List}
 use Rattle.answer.specs.declared.Answer.{Answer}
 use Rattle.answer.specs.declared.Answer.the-variants.{Pass}
 use Rattle.answer.proofs.Settled.{says}
-use Rattle.tables.specs.declared.Tables.{Tables}
-use Rattle.tables.specs.Trailer.{tablesOf}
-use Rattle.tables.specs.Fields.{nodeKind, nodeNumber, nodeCount, nodeRights}
+use Rattle.graph_tables.specs.declared.Tables.{Tables}
+use Rattle.graph_tables.specs.Trailer.{tablesOf}
+use Rattle.graph_tables.specs.Fields.{nodeKind, nodeNumber, nodeCount, nodeRights}
 use Rattle.graph_places.specs.Places.{unfitAt}
 use Rattle.graph.specs.Judge.{judgeOf}
 use Rattle.graph.specs.Lines.{SameButLines}
 use Rattle.graph.specs.Graph.{CatchRow, OfKind}
 use Rattle.graph.proofs.Whole.{formed}
-use Rattle.tables.proofs.SameRows.{SameRows, SameOpening, SameFields, same-tables, same-fields, rows-sym, opening-sym}
+use Rattle.graph_tables.proofs.SameRows.{SameRows, SameOpening, SameFields, same-tables, same-fields, rows-sym, opening-sym}
 use Rattle.graph.proofs.Alike.{alike}
 use Rattle.graph.proofs.Lines.{same-rows, same-opening}
 use Rattle.graph.proofs.Agree.{Agree, agree, said, judged-alike, pass-alike}

@@ -16,11 +16,11 @@ use Rattle.answer.specs.declared.Answer.{Answer}
 use Rattle.answer.specs.declared.Answer.the-variants.{Pass}
 use Rattle.answer.specs.Number.{SaysAs}
 use Rattle.answer.proofs.Settled.{says-only, says}
-use Rattle.tables.specs.declared.Tables.{Tables}
-use Rattle.tables.specs.Trailer.{tablesOf}
-use Rattle.tables.specs.Kinds.{grantKind, drawKind}
-use Rattle.tables.specs.Fields.{nodeMethod, nodeKind, nodeNumber, nodeCount, nodeRights, flowFrom, flowTo, catchFrom, catchException, catchTo, entryOf, callNode, callMethod}
-use Rattle.refuse.proofs.Fit.{entry-fit, flow-fit, call-fit, catch-fit}
+use Rattle.graph_tables.specs.declared.Tables.{Tables}
+use Rattle.graph_tables.specs.Trailer.{tablesOf}
+use Rattle.graph_tables.specs.Kinds.{grantKind, drawKind}
+use Rattle.graph_tables.specs.Fields.{nodeMethod, nodeKind, nodeNumber, nodeCount, nodeRights, flowFrom, flowTo, catchFrom, catchException, catchTo, entryOf, callNode, callMethod}
+use Rattle.graph_refuse.proofs.Fit.{entry-fit, flow-fit, call-fit, catch-fit}
 use Rattle.graph_places.specs.Places.{unfitAt}
 use Rattle.graph.specs.Judge.{judgeOf}
 use Rattle.graph.specs.Graph.{OfKind}

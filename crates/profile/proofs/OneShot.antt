@@ -11,18 +11,18 @@ use Rattle.effect.specs.declared.Stock.{Stock}
 use Rattle.model.specs.Stocks.{Does, plain, grant, done, Covered}
 use Rattle.model.specs.Program.{doings}
 use Rattle.model.proofs.OneShot.{AskedBefore, not-overdrawn, grant-covers}
-use Rattle.tables.specs.declared.Tables.{Tables}
-use Rattle.tables.specs.Trailer.{tablesOf}
-use Rattle.tables.specs.Kinds.{grantKind, drawKind, callKind}
-use Rattle.tables.specs.Fields.{nodeKind, nodeNumber, nodeCount, nodeRights, catchException}
-use Rattle.refuse.proofs.Fit.{node-fit}
+use Rattle.graph_tables.specs.declared.Tables.{Tables}
+use Rattle.graph_tables.specs.Trailer.{tablesOf}
+use Rattle.graph_tables.specs.Kinds.{grantKind, drawKind, callKind}
+use Rattle.graph_tables.specs.Fields.{nodeKind, nodeNumber, nodeCount, nodeRights, catchException}
+use Rattle.graph_refuse.proofs.Fit.{node-fit}
 use Rattle.graph.specs.Judge.{judgeOf}
 use Rattle.graph.specs.Graph.{FlowRow, OfKind}
 use Rattle.graph.proofs.Passed.{judged}
 use Rattle.graph.proofs.Whole.{formed, limits}
-use Rattle.nodes.specs.Nodes.{doesIn}
-use Rattle.nodes.specs.Program.{programOf, Overdrawing, Safe}
-use Rattle.nodes.proofs.Cases.{does-outside, does-grant, does-draw, does-plain}
+use Rattle.graph_nodes.specs.Nodes.{doesIn}
+use Rattle.graph_nodes.specs.Program.{programOf, Overdrawing, Safe}
+use Rattle.graph_nodes.proofs.Cases.{does-outside, does-grant, does-draw, does-plain}
 use Rattle.profile.specs.Profile.{Asks, BreaksOneShot, by-flow, by-entry, by-catch, Profiled, refused, unfit, fits}
 use Rattle.profile.proofs.Breaks.{asked}
 

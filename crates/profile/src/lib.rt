@@ -2,7 +2,7 @@
 use answer::Answer;
 use profile_looks::Profile;
 ghost use mathlib.Core.Path.{_≡_};
-ghost use Rattle.nodes.specs.Program.{Safe};
+ghost use Rattle.graph_nodes.specs.Program.{Safe};
 ghost use Rattle.profile.specs.Profile.{Profiled, BreaksOneShot, BreaksSession};
 ghost use Rattle.profile.specs.Breaks.{Breaks};
 

@@ -6,7 +6,7 @@ use mathlib.Core.List.{List}
 use native.Mathlib.Omega.{arith}
 use Rattle.words.specs.Least.{leastOf}
 use Rattle.words.proofs.Least.{least-under, least-hit}
-use Rattle.tables.specs.declared.Tables.{Tables}
+use Rattle.graph_tables.specs.declared.Tables.{Tables}
 use Rattle.profile_looks.specs.declared.Look.{Look}
 use Rattle.profile_looks.specs.Looks.{rowsOf, nodeOf, convicts, convicted, lowestOf}
 

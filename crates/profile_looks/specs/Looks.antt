@@ -5,9 +5,9 @@ use mathlib.Core.List.{List}
 use lib.Dec.{eqb}
 use lib.Bits.{bitAnd}
 use Rattle.words.specs.Least.{leastOf}
-use Rattle.tables.specs.declared.Tables.{Tables}
-use Rattle.tables.specs.Kinds.{grantKind, drawKind}
-use Rattle.tables.specs.Fields.{entryOf, nodeMethod, nodeKind, nodeNumber, nodeCount, nodeRights, flowFrom, flowTo, callNode, callMethod, catchTo}
+use Rattle.graph_tables.specs.declared.Tables.{Tables}
+use Rattle.graph_tables.specs.Kinds.{grantKind, drawKind}
+use Rattle.graph_tables.specs.Fields.{entryOf, nodeMethod, nodeKind, nodeNumber, nodeCount, nodeRights, flowFrom, flowTo, callNode, callMethod, catchTo}
 use Rattle.profile_looks.specs.declared.Look.{Look}
 use Rattle.profile_looks.specs.declared.Look.the-variants.{Flow, Entry, Catch, Grant, Call}
 use Rattle.profile_looks.specs.declared.Profile.{Profile}

@@ -1,5 +1,5 @@
 // Which nodes the rows of a graph file convict, and the lowest that breaks a profile.
-use tables::Tables;
+use graph_tables::Tables;
 ghost use mathlib.Core.Path.{_≡_};
 ghost use Rattle.profile_looks.specs.Looks.{isDraw, asks, rowsOf, nodeOf, convicts, convicted, lowestOf, breaking};
 
@@ -36,39 +36,39 @@ fn node(f: &[u8], t: Tables, look: Look, k: u16) -> u16
     ensures { λ r. ⌜ r ≡ nodeOf (now (f .entry)) t look k ⌝ }
 {
     match look {
-        Look::Flow => tables::flow_to(f, t, k),
-        Look::Entry => tables::entry(f, k),
-        Look::Catch => tables::catch_to(f, t, k),
+        Look::Flow => graph_tables::flow_to(f, t, k),
+        Look::Entry => graph_tables::entry(f, k),
+        Look::Catch => graph_tables::catch_to(f, t, k),
         Look::Grant => k,
-        Look::Call => tables::call_node(f, t, k),
+        Look::Call => graph_tables::call_node(f, t, k),
     }
 }
 
 fn is_draw(f: &[u8], t: Tables, n: u16) -> bool
     ensures { λ r. ⌜ r ≡ isDraw (now (f .entry)) t n ⌝ }
 {
-    tables::node_kind(f, t, n) == tables::DRAW
+    graph_tables::node_kind(f, t, n) == graph_tables::DRAW
 }
 
 // Node g is a grant of the type of the draw d, whose rights contain the draw's, with a count of exactly 1.
 fn asks(f: &[u8], t: Tables, g: u16, d: u16) -> bool
     ensures { λ r. ⌜ r ≡ asks (now (f .entry)) t g d ⌝ }
 {
-    let kind = tables::node_kind(f, t, g);
-    let granted = tables::node_number(f, t, g);
-    let drawn = tables::node_number(f, t, d);
-    let given = tables::node_rights(f, t, g);
-    let needed = tables::node_rights(f, t, d);
-    let count = tables::node_count(f, t, g);
-    (kind == tables::GRANT) & (granted == drawn) & (needed & given == needed) & (count == 1)
+    let kind = graph_tables::node_kind(f, t, g);
+    let granted = graph_tables::node_number(f, t, g);
+    let drawn = graph_tables::node_number(f, t, d);
+    let given = graph_tables::node_rights(f, t, g);
+    let needed = graph_tables::node_rights(f, t, d);
+    let count = graph_tables::node_count(f, t, g);
+    (kind == graph_tables::GRANT) & (granted == drawn) & (needed & given == needed) & (count == 1)
 }
 
 // Flow row k leads to a draw, and leaves anything but a grant that asks for it.
 fn flow_convicts(f: &[u8], t: Tables, k: u16) -> bool
     ensures { λ r. ⌜ r ≡ convicts (now (f .entry)) t Look.Flow k ⌝ }
 {
-    let from = tables::flow_from(f, t, k);
-    let to = tables::flow_to(f, t, k);
+    let from = graph_tables::flow_from(f, t, k);
+    let to = graph_tables::flow_to(f, t, k);
     is_draw(f, t, to) & !asks(f, t, from, to)
 }
 
@@ -76,10 +76,10 @@ fn flow_convicts(f: &[u8], t: Tables, k: u16) -> bool
 fn grant_convicts(f: &[u8], t: Tables, k: u16) -> bool
     ensures { λ r. ⌜ r ≡ convicts (now (f .entry)) t Look.Grant k ⌝ }
 {
-    let kind = tables::node_kind(f, t, k);
-    let method = tables::node_method(f, t, k);
-    let count = tables::node_count(f, t, k);
-    (kind == tables::GRANT) & !((method == 0) & (count == 255))
+    let kind = graph_tables::node_kind(f, t, k);
+    let method = graph_tables::node_method(f, t, k);
+    let count = graph_tables::node_count(f, t, k);
+    (kind == graph_tables::GRANT) & !((method == 0) & (count == 255))
 }
 
 fn convicts(f: &[u8], t: Tables, look: Look, k: u16) -> bool
@@ -87,10 +87,10 @@ fn convicts(f: &[u8], t: Tables, look: Look, k: u16) -> bool
 {
     match look {
         Look::Flow => flow_convicts(f, t, k),
-        Look::Entry => is_draw(f, t, tables::entry(f, k)),
-        Look::Catch => is_draw(f, t, tables::catch_to(f, t, k)),
+        Look::Entry => is_draw(f, t, graph_tables::entry(f, k)),
+        Look::Catch => is_draw(f, t, graph_tables::catch_to(f, t, k)),
         Look::Grant => grant_convicts(f, t, k),
-        Look::Call => tables::call_method(f, t, k) == 0,
+        Look::Call => graph_tables::call_method(f, t, k) == 0,
     }
 }
 

@@ -15,15 +15,15 @@ use Rattle.answer.specs.Number.{numberOf}
 use Rattle.effect.specs.declared.Stock.{Stock}
 use Rattle.model.specs.Machine.{Config, At, Out, Step, along, enter, again, back, caught, leaves, handled, passes, Steps, stay, more}
 use Rattle.model.specs.Program.{doings}
-use Rattle.tables.specs.Trailer.{trailerAt, trailer, tablesOf}
-use Rattle.tables.specs.Fields.{entryOf, nodeMethod, nodeKind, nodeNumber, nodeCount, nodeRights, parentOf, openingRights, openingCount}
-use Rattle.refuse.specs.Bad.{countBad, lengthBad, entryBad, outOfRange, unusedSet, nodeBad, parentBad, uncalled, openingBad}
+use Rattle.graph_tables.specs.Trailer.{trailerAt, trailer, tablesOf}
+use Rattle.graph_tables.specs.Fields.{entryOf, nodeMethod, nodeKind, nodeNumber, nodeCount, nodeRights, parentOf, openingRights, openingCount}
+use Rattle.graph_refuse.specs.Bad.{countBad, lengthBad, entryBad, outOfRange, unusedSet, nodeBad, parentBad, uncalled, openingBad}
 use Rattle.graph.specs.Judge.{judgeRows, judgeIn, judgeOf}
 use Rattle.graph.specs.Graph.{graphOf}
-use Rattle.nodes.specs.Nodes.{doesIn, openingIn}
-use Rattle.nodes.specs.Program.{programOf, Overdrawing}
-use Rattle.layout.specs.Layout.{sheetBytes}
-use Rattle.rules.specs.Sheet.{shape}
+use Rattle.graph_nodes.specs.Nodes.{doesIn, openingIn}
+use Rattle.graph_nodes.specs.Program.{programOf, Overdrawing}
+use Rattle.sheet_layout.specs.Layout.{sheetBytes}
+use Rattle.rule_test.specs.Sheet.{shape}
 use Rattle.work.proofs.Meaning.{verdict}
 use Rattle.work.proofs.Settles.{some-worked}
 use Rattle.raised.specs.Opening.{Raised}

@@ -17,15 +17,15 @@ use Rattle.effect.proofs.Bit.{bit-ext}
 use Rattle.model.specs.Rules.{Under}
 use Rattle.model.specs.Stocks.{permits}
 use Rattle.model.proofs.Opening.{masked}
-use Rattle.tables.proofs.SameRows.{SameRows, same-tables, rows-sym}
+use Rattle.graph_tables.proofs.SameRows.{SameRows, same-tables, rows-sym}
 use Rattle.graph.specs.Judge.{judgeOf}
 use Rattle.graph.specs.Graph.{graphOf}
-use Rattle.nodes.specs.Program.{Overdrawing}
-use Rattle.layout.specs.declared.Shape.{Shape}
-use Rattle.rules.specs.Sheet.{shape, sheet, WellFormed}
-use Rattle.permit.specs.Check.{checkOf}
-use Rattle.permit.proofs.Meaning.{accepts}
-use Rattle.permit.proofs.Alike.{well-formed}
+use Rattle.graph_nodes.specs.Program.{Overdrawing}
+use Rattle.sheet_layout.specs.declared.Shape.{Shape}
+use Rattle.rule_test.specs.Sheet.{shape, sheet, WellFormed}
+use Rattle.accept.specs.Check.{checkOf}
+use Rattle.accept.proofs.Meaning.{accepts}
+use Rattle.accept.proofs.Alike.{well-formed}
 use Rattle.work.specs.Meaning.{Worked}
 use Rattle.raised.specs.Opening.{ButOpening, Raised, OnlyType}
 use Rattle.raised.specs.Outcome.{Verdict, EffectsStay, NoWorse, OthersStay}

@@ -4,9 +4,9 @@ use mathlib.Core.Path.{_≡_}
 use mathlib.Core.List.{List}
 use native.Mathlib.Omega.{arith}
 use Rattle.answer.specs.declared.Answer.the-variants.{Pass}
-use Rattle.tables.specs.Trailer.{trailerAt, tablesOf}
-use Rattle.tables.proofs.SameRows.{Read, of-methods, of-node, of-rows, of-trailer, SameRows}
-use Rattle.refuse.proofs.Fit.{length-fit}
+use Rattle.graph_tables.specs.Trailer.{trailerAt, tablesOf}
+use Rattle.graph_tables.proofs.SameRows.{Read, of-methods, of-node, of-rows, of-trailer, SameRows}
+use Rattle.graph_refuse.proofs.Fit.{length-fit}
 use Rattle.graph.specs.Judge.{judgeOf}
 use Rattle.graph.proofs.Passed.{judged}
 use Rattle.raised.specs.Opening.{OfOpening, ButOpening}

@@ -14,16 +14,16 @@ use Rattle.model.proofs.Stocks.{laws}
 use Rattle.model.proofs.Greatest.{Obeys}
 use Rattle.model.proofs.Alike.{under-alike}
 use Rattle.model.proofs.Opening.{Masks, masked, masked-obeys}
-use Rattle.tables.proofs.SameRows.{SameRows, rows-sym}
+use Rattle.graph_tables.proofs.SameRows.{SameRows, rows-sym}
 use Rattle.graph.specs.Judge.{judgeOf}
 use Rattle.graph.specs.Graph.{graphOf}
 use Rattle.graph.proofs.Alike.{alike}
-use Rattle.nodes.specs.Program.{programOf}
-use Rattle.nodes.proofs.Alike.{same-does}
-use Rattle.formed.specs.Sheet.{sheetIn}
-use Rattle.rules.specs.Sheet.{sheet}
-use Rattle.permit.proofs.Meaning.{Accepted}
-use Rattle.permit.proofs.Alike.{same-shape, reached, covered, well-formed}
+use Rattle.graph_nodes.specs.Program.{programOf}
+use Rattle.graph_nodes.proofs.Alike.{same-does}
+use Rattle.sheet_formed.specs.Sheet.{sheetIn}
+use Rattle.rule_test.specs.Sheet.{sheet}
+use Rattle.accept.proofs.Meaning.{Accepted}
+use Rattle.accept.proofs.Alike.{same-shape, reached, covered, well-formed}
 use Rattle.work.specs.Meaning.{Worked}
 use Rattle.work.proofs.Settles.{greatest-worked}
 use Rattle.raised.proofs.Stocks.{keeping, OpensBelow, opening-below, masks}

@@ -6,7 +6,7 @@ use mathlib.Core.Logic.{_⊎_, inl, inr}
 use mathlib.Core.List.{List}
 use native.Mathlib.Decide.{decLt}
 use native.Mathlib.Omega.{arith}
-use Rattle.single.specs.declared.Held.{Held}
+use Rattle.effect_one.specs.declared.Held.{Held}
 use Rattle.effect.specs.declared.Stock.{Stock}
 use Rattle.effect.specs.Six.{heldAt, stockOf, noneHeld}
 use Rattle.effect.specs.Coordinate.{RightsWithin, Coordinate, right, count, typeOf, at}
@@ -15,12 +15,12 @@ use Rattle.effect.proofs.Six.{stock-at}
 use Rattle.effect.proofs.Coordinate.{type-lt, seen, at-seen}
 use Rattle.model.specs.Stocks.{permits}
 use Rattle.model.proofs.Opening.{Masks}
-use Rattle.tables.specs.Trailer.{tablesOf}
-use Rattle.tables.specs.Fields.{openingRights, openingCount}
-use Rattle.tables.proofs.SameRows.{SameRows, same-tables}
-use Rattle.nodes.specs.Nodes.{forType, openingIn}
-use Rattle.nodes.specs.Program.{programOf}
-use Rattle.nodes.proofs.Cases.{for-some, for-none}
+use Rattle.graph_tables.specs.Trailer.{tablesOf}
+use Rattle.graph_tables.specs.Fields.{openingRights, openingCount}
+use Rattle.graph_tables.proofs.SameRows.{SameRows, same-tables}
+use Rattle.graph_nodes.specs.Nodes.{forType, openingIn}
+use Rattle.graph_nodes.specs.Program.{programOf}
+use Rattle.graph_nodes.proofs.Cases.{for-some, for-none}
 use Rattle.raised.specs.Opening.{rightsOf, countOf}
 
 none-seen : (i : Coordinate) → seen i noneHeld ≡ 0

@@ -16,16 +16,16 @@ use Rattle.model.specs.Stocks.{permits}
 use Rattle.model.proofs.Setting.{Laws, Told}
 use Rattle.model.proofs.Stocks.{laws}
 use Rattle.model.proofs.Opening.{masked}
-use Rattle.tables.specs.Trailer.{tablesOf}
-use Rattle.tables.proofs.SameRows.{SameRows, rows-sym}
+use Rattle.graph_tables.specs.Trailer.{tablesOf}
+use Rattle.graph_tables.proofs.SameRows.{SameRows, rows-sym}
 use Rattle.graph.specs.Judge.{judgeOf}
 use Rattle.graph.specs.Graph.{graphOf}
 use Rattle.graph.proofs.Passed.{judge-few}
-use Rattle.nodes.specs.Program.{Overdrawing}
-use Rattle.nodes.proofs.Setting.{setting}
-use Rattle.layout.specs.Layout.{sheetBytes}
-use Rattle.rules.specs.Sheet.{shape, sheet, stockIn}
-use Rattle.permit.proofs.Alike.{reached, covered}
+use Rattle.graph_nodes.specs.Program.{Overdrawing}
+use Rattle.graph_nodes.proofs.Setting.{setting}
+use Rattle.sheet_layout.specs.Layout.{sheetBytes}
+use Rattle.rule_test.specs.Sheet.{shape, sheet, stockIn}
+use Rattle.accept.proofs.Alike.{reached, covered}
 use Rattle.work.specs.Meaning.{Worked, WorksOut, refused, wrong-length, overdrawn, passes}
 use Rattle.work.proofs.Meaning.{overdraws}
 use Rattle.raised.specs.Outcome.{Verdict}

@@ -10,8 +10,8 @@ use native.Mathlib.Omega.{arith}
 use lib.Bits.{and-le-r}
 use borrow.Author.Tests.{lt-ltb, le-ltb, eq-eqb, ne-eqb, eqb-true}
 use Rattle.words.proofs.Read.{word-lt}
-use Rattle.number.specs.Number.{counted}
-use Rattle.number.specs.Formulas.{within}
+use Rattle.effect_number.specs.Number.{counted}
+use Rattle.effect_number.specs.Formulas.{within}
 use Rattle.effect.specs.Coordinate.{RightsWithin, bit, right, count, at}
 use Rattle.effect.proofs.Bit.{bit-none, word-bits, bit-within}
 use Rattle.model.specs.Rules.{Under}
@@ -19,13 +19,13 @@ use Rattle.model.specs.Stocks.{permits}
 use Rattle.model.proofs.Opening.{masked}
 use Rattle.graph.specs.Graph.{graphOf}
 use Rattle.graph.proofs.Whole.{limits}
-use Rattle.layout.specs.declared.Shape.{Shape}
-use Rattle.layout.specs.Layout.{stockSize, methodAt, sheetWords, isStock}
-use Rattle.layout.proofs.Blocks.{at-method, at-exit, at-node, size-method, size-exit, size-node, block-method, method-size, block-exit, exit-size, block-node, node-size}
+use Rattle.sheet_layout.specs.declared.Shape.{Shape}
+use Rattle.sheet_layout.specs.Layout.{stockSize, methodAt, sheetWords, isStock}
+use Rattle.sheet_layout.proofs.Blocks.{at-method, at-exit, at-node, size-method, size-exit, size-node, block-method, method-size, block-exit, exit-size, block-node, node-size}
 use Rattle.sheet.specs.Read.{sheetWord, markAt, stockAt}
 use Rattle.sheet.proofs.Back.{stock-word-read}
-use Rattle.formed.proofs.Judged.{Formed, formed, counts-le}
-use Rattle.rules.specs.Sheet.{shape, sheet, WellFormed}
+use Rattle.sheet_formed.proofs.Judged.{Formed, formed, counts-le}
+use Rattle.rule_test.specs.Sheet.{shape, sheet, WellFormed}
 use Rattle.work.proofs.Same.{effect-settled}
 use Rattle.work.proofs.Words.{stands}
 use Rattle.raised.specs.Outcome.{EffectsStay, rightsAt, countAt}

@@ -5,8 +5,8 @@ use mathlib.Core.List.{List}
 use lib.ListN.{length}
 use Rattle.words.specs.Bytes.{byteAt}
 use Rattle.effect.specs.Coordinate.{RightsWithin}
-use Rattle.tables.specs.Trailer.{tablesOf}
-use Rattle.tables.specs.Fields.{openingRights, openingCount}
+use Rattle.graph_tables.specs.Trailer.{tablesOf}
+use Rattle.graph_tables.specs.Fields.{openingRights, openingCount}
 
 -- the byte p stands in the opening table, which is where the trailer of f says
 abbrev pub OfOpening : List ℕ → ℕ → Type 0

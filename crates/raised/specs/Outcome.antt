@@ -6,8 +6,8 @@ use mathlib.Core.List.{List}
 use Rattle.answer.specs.declared.Answer.{Answer}
 use Rattle.answer.specs.Number.{numberOf, placeOf}
 use Rattle.effect.specs.Coordinate.{RightsWithin}
-use Rattle.layout.specs.declared.Shape.{Shape}
-use Rattle.layout.specs.Layout.{effectSize, methodAt, exitAt, nodeAt, sheetWords}
+use Rattle.sheet_layout.specs.declared.Shape.{Shape}
+use Rattle.sheet_layout.specs.Layout.{effectSize, methodAt, exitAt, nodeAt, sheetWords}
 use Rattle.sheet.specs.Read.{sheetWord, SameWords, markAt}
 use Rattle.work.specs.Meaning.{WorksOut}
 

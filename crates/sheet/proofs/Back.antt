@@ -12,7 +12,7 @@ use Rattle.words.specs.Bytes.{byteAt, wordAt}
 use Rattle.words.specs.Write.{splice, bytesOf}
 use Rattle.words.proofs.Read.{byte-past, word-lt}
 use Rattle.words.proofs.Splice.{word-before, word-after, word-written}
-use Rattle.layout.specs.Layout.{stockSize, effectSize}
+use Rattle.sheet_layout.specs.Layout.{stockSize, effectSize}
 use Rattle.effect.specs.declared.Stock.{Stock}
 use Rattle.effect.specs.declared.Effect.{Effect}
 use Rattle.effect.specs.Six.{six}

@@ -9,7 +9,7 @@ use native.Mathlib.Numerals.{add-one}
 use native.Mathlib.Omega.{arith}
 use Rattle.words.specs.Write.{bytesOf}
 use Rattle.words.proofs.Splice.{bytes-same}
-use Rattle.layout.specs.Layout.{stockSize}
+use Rattle.sheet_layout.specs.Layout.{stockSize}
 use Rattle.effect.specs.declared.Stock.{Stock}
 use Rattle.effect.specs.Six.{six}
 use Rattle.effect.proofs.Six.{below-six}

@@ -9,9 +9,9 @@ use lib.Dec.{ltb}
 use borrow.Author.Tests.{ltb-true, ltb-false}
 use native.Mathlib.Nat.{not-suc-le-zero}
 use native.Mathlib.Omega.{arith}
-use Rattle.layout.specs.declared.Shape.{Shape}
-use Rattle.layout.specs.Layout.{sheetBytes, blockCount, blockSize, blockAt}
-use Rattle.layout.proofs.Blocks.{apart, inside}
+use Rattle.sheet_layout.specs.declared.Shape.{Shape}
+use Rattle.sheet_layout.specs.Layout.{sheetBytes, blockCount, blockSize, blockAt}
+use Rattle.sheet_layout.proofs.Blocks.{apart, inside}
 use Rattle.words.specs.Write.{splice, bytesOf}
 use Rattle.sheet.proofs.Back.{kept}
 use Rattle.sheet.specs.Read.{SameWords}

@@ -7,7 +7,7 @@ use lib.Dec.{ltb}
 use borrow.Author.Tests.{ltb-true}
 use native.Mathlib.Nat.{le-refl}
 use native.Mathlib.Omega.{arith}
-use Rattle.layout.specs.Layout.{stockSize, effectSize}
+use Rattle.sheet_layout.specs.Layout.{stockSize, effectSize}
 use Rattle.effect.specs.Six.{six}
 use Rattle.sheet.specs.Read.{sheetWord, SameWords, markAt, column, stockAt, effectAt}
 

@@ -5,7 +5,7 @@ use mathlib.Core.Bool.{Bool, cond}
 use mathlib.Core.List.{List}
 use lib.ListN.{getD}
 use borrow.Author.Tests.{lt-ltb}
-use Rattle.single.specs.Single.{idle}
+use Rattle.effect_one.specs.Single.{idle}
 use Rattle.effect.specs.Six.{six, oneAt}
 use Rattle.effect.proofs.Fields.{fields-idle}
 use Rattle.sheet.specs.Read.{sheetWord, column, effectAt}

@@ -1,7 +1,7 @@
 -- The four words of one type of an effect, as they stand in a block.
 use Prim.Native.Nat.{ℕ, _+_, _*_}
 use mathlib.Core.List.{List}
-use Rattle.single.specs.declared.One.{One}
+use Rattle.effect_one.specs.declared.One.{One}
 use Rattle.sheet.specs.Read.{sheetWord}
 
 unfoldable pub oneWords : List ℕ → ℕ → ℕ → One

@@ -5,7 +5,7 @@ use mathlib.Core.List.{List}
 use Rattle.effect.specs.declared.Stock.{Stock}
 use Rattle.effect.specs.declared.Effect.{Effect}
 use Rattle.effect.specs.Whole.{atMostOf, stockAtMostOf}
-use Rattle.layout.specs.declared.Shape.{Shape}
+use Rattle.sheet_layout.specs.declared.Shape.{Shape}
 use Rattle.sheet.specs.Read.{marked, stockAt, effectAt}
 
 -- "mark 1 and at most" what is named

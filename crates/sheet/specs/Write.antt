@@ -5,7 +5,7 @@ use mathlib.Core.List.{List}
 use lib.ListN.{length, getD, set, replicate}
 use lib.Dec.{eqb}
 use Rattle.words.specs.Write.{bytesOf}
-use Rattle.layout.specs.Layout.{stockSize, effectSize}
+use Rattle.sheet_layout.specs.Layout.{stockSize, effectSize}
 use Rattle.effect.specs.declared.Stock.{Stock}
 use Rattle.effect.specs.declared.Effect.{Effect}
 

@@ -1,14 +1,14 @@
 // The blocks of a sheet: read from lent bytes, and written where they stand in it.
 use effect::Effect;
 use effect::Stock;
-use single::Held;
-use single::One;
+use effect_one::Held;
+use effect_one::One;
 ghost use mathlib.Core.Path.{_≡_};
 ghost use mathlib.Core.Bool.{true};
 ghost use mathlib.Core.Logic.{_↔_};
 ghost use Prim.Native.Nat.{_+_, _*_, _<_, _≤_};
 ghost use lib.ListN.{length, getD};
-ghost use Rattle.layout.specs.Layout.{stockSize, effectSize};
+ghost use Rattle.sheet_layout.specs.Layout.{stockSize, effectSize};
 ghost use Rattle.effect.specs.Six.{six, heldAt, oneAt};
 ghost use Rattle.words.specs.Write.{splice, bytesOf};
 ghost use Rattle.sheet.specs.Read.{sheetWord, markAt, marked, column, stockAt, effectAt};

@@ -14,10 +14,10 @@ use Rattle.words.specs.Four.{fourAt}
 use Rattle.words.proofs.Read.{word-lt}
 use Rattle.words.proofs.Four.{four-same}
 use Rattle.words.proofs.Lowest.{lowest-is, lowest-none}
-use Rattle.single.specs.declared.Held.{Held}
-use Rattle.single.specs.declared.One.{One}
-use Rattle.single.specs.Single.{idle, applyOne}
-use Rattle.single.specs.Formulas.{thenOne, atMostOne}
+use Rattle.effect_one.specs.declared.Held.{Held}
+use Rattle.effect_one.specs.declared.One.{One}
+use Rattle.effect_one.specs.Single.{idle, applyOne}
+use Rattle.effect_one.specs.Formulas.{thenOne, atMostOne}
 use Rattle.effect.specs.declared.Effect.{Effect}
 use Rattle.effect.specs.Six.{six, heldAt, stockOf, oneAt, effectOf}
 use Rattle.effect.specs.Whole.{oneIf, nothingDone, applyOf, thenOf, failsOf}
@@ -27,7 +27,7 @@ use Rattle.effect.proofs.Single.{below-along, one-then, one-sound, one-complete
 use Rattle.effect.proofs.Laws.{Fits, apply-nothing}
 use Rattle.effect.proofs.Types.{then-idle}
 use Rattle.effect.proofs.Filled.{upTo}
-use Rattle.number.specs.Number.{rightsAfter}
+use Rattle.effect_number.specs.Number.{rightsAfter}
 use Rattle.sheet.specs.Read.{sheetWord, effectAt}
 use Rattle.sheet.specs.Inner.{oneWords}
 use Rattle.sheet.proofs.Same.{six-same}

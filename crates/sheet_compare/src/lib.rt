@@ -1,13 +1,13 @@
 // Blocks of a sheet compared, and stepped, where they stand, type by type.
 use effect::Effect;
-use layout::Shape;
-use single::One;
+use effect_one::One;
+use sheet_layout::Shape;
 ghost use mathlib.Core.Path.{_≡_};
 ghost use Prim.Native.Nat.{_+_, _*_, _<_, _≤_};
 ghost use lib.ListN.{length};
 ghost use lib.Dec.{eqb};
-ghost use Rattle.layout.specs.Layout.{effectSize};
-ghost use Rattle.single.specs.Formulas.{thenOne, atMostOne};
+ghost use Rattle.sheet_layout.specs.Layout.{effectSize};
+ghost use Rattle.effect_one.specs.Formulas.{thenOne, atMostOne};
 ghost use Rattle.effect.specs.Six.{oneAt, effectOf};
 ghost use Rattle.effect.specs.Whole.{oneIf, thenOf, failsOf};
 ghost use Rattle.sheet.specs.Read.{effectAt};
@@ -24,7 +24,7 @@ fn one_under(s: &[u8], v: usize, w: usize, k: usize) -> bool
     if here == there {
         return true;
     }
-    single::at_most(sheet::inner_one(s, v, k), sheet::inner_one(s, w, k))
+    effect_one::at_most(sheet::inner_one(s, v, k), sheet::inner_one(s, w, k))
 }
 
 // The same, where y is done to type n after what the block at w says.
@@ -33,9 +33,9 @@ fn stepped_under(s: &[u8], v: usize, w: usize, n: usize, y: One, k: usize) -> bo
     ensures { λ r. ⌜ r ≡ atMostOne (oneWords (now (s .entry)) v k) (thenOne (oneWords (now (s .entry)) w k) (oneIf (eqb k n) y)) ⌝ }
 {
     if k == n {
-        return single::at_most(
+        return effect_one::at_most(
             sheet::inner_one(s, v, k),
-            single::then(sheet::inner_one(s, w, k), y),
+            effect_one::then(sheet::inner_one(s, w, k), y),
         );
     }
     one_under(s, v, w, k)
@@ -63,9 +63,9 @@ fn stepped_one(s: &[u8], w: usize, n: usize, y: One, k: usize) -> One
 {
     let x = sheet::inner_one(s, w, k);
     if k != n {
-        return single::then(x, single::nothing_done());
+        return effect_one::then(x, effect_one::nothing_done());
     }
-    single::then(x, y)
+    effect_one::then(x, y)
 }
 
 // The effect of the block at w, which lies in the sheet, then y for the type n.
@@ -100,9 +100,9 @@ fn type_under(s: &[u8], t: u16, v: usize, k: usize, y: One) -> bool
     ensures { λ r. ⌜ r ≡ atMostOne (oneAt (effectAt (now (s .entry)) t v) k) y ⌝ }
 {
     if k < t as usize {
-        return single::at_most(sheet::inner_one(s, v, k), y);
+        return effect_one::at_most(sheet::inner_one(s, v, k), y);
     }
-    single::at_most(single::nothing_done(), y)
+    effect_one::at_most(effect_one::nothing_done(), y)
 }
 
 // The lowest type at which the effect of a block that lies in the sheet is not at most e, or 6.

@@ -8,8 +8,8 @@ use lib.Seq.{take-at, drop-at, drop-drop, drop-append-add, length-take-le, take-
 use native.Mathlib.Omega.{arith}
 use Rattle.words.specs.Write.{splice, wordBytes, bytesOf}
 use Rattle.words.proofs.Splice.{length-bytes, word-after}
-use Rattle.single.specs.declared.One.{One}
-use Rattle.single.specs.Formulas.{bothOne}
+use Rattle.effect_one.specs.declared.One.{One}
+use Rattle.effect_one.specs.Formulas.{bothOne}
 use Rattle.effect.specs.declared.Effect.{Effect}
 use Rattle.effect.specs.Six.{oneAt}
 use Rattle.effect.specs.Whole.{bothOf}

@@ -3,7 +3,7 @@ use Prim.Native.Nat.{ℕ}
 use mathlib.Core.Bool.{cond}
 use mathlib.Core.List.{List, _++_}
 use Rattle.words.specs.Write.{wordBytes}
-use Rattle.single.specs.declared.One.{One}
+use Rattle.effect_one.specs.declared.One.{One}
 use Rattle.effect.specs.declared.Effect.{Effect}
 use Rattle.effect.specs.Whole.{bothOf}
 use Rattle.sheet.specs.Read.{marked, effectAt}

@@ -1,13 +1,13 @@
 // Effects of a sheet marked and lowered where they stand, type by type.
 use effect::Effect;
-use single::One;
+use effect_one::One;
 ghost use mathlib.Core.Path.{_≡_};
 ghost use mathlib.Core.Bool.{cond};
 ghost use Prim.Native.Nat.{_+_, _*_, _<_, _≤_};
 ghost use lib.ListN.{length};
 ghost use Rattle.words.specs.Write.{splice};
-ghost use Rattle.layout.specs.Layout.{effectSize};
-ghost use Rattle.single.specs.Formulas.{bothOne};
+ghost use Rattle.sheet_layout.specs.Layout.{effectSize};
+ghost use Rattle.effect_one.specs.Formulas.{bothOne};
 ghost use Rattle.sheet.specs.Inner.{oneWords};
 ghost use Rattle.sheet_lower.specs.Lowered.{oneBytes, loweredBytes};
 
@@ -30,7 +30,7 @@ fn lower_one(s: &mut [u8], w: usize, k: usize, old: bool, x: One)
 {
     if old {
         let y = sheet::inner_one(s, w, k);
-        put_one(s, w, k, single::both(y, x));
+        put_one(s, w, k, effect_one::both(y, x));
         return;
     }
     put_one(s, w, k, x);

@@ -6,13 +6,13 @@ use mathlib.Core.List.{List}
 use lib.ListN.{length}
 use Rattle.answer.specs.declared.Answer.{Answer}
 use Rattle.answer.specs.declared.Answer.the-variants.{Pass}
-use Rattle.tables.specs.Trailer.{tablesOf}
+use Rattle.graph_tables.specs.Trailer.{tablesOf}
 use Rattle.graph.specs.Judge.{judgeOf}
 use Rattle.graph.specs.Judgement.{shapeOf}
-use Rattle.layout.specs.Layout.{sheetBytes}
-use Rattle.permit.specs.Check.{checkOf}
-use Rattle.permit.specs.Meaning as meaning
-use Rattle.permit.proofs.Meaning.{only}
+use Rattle.sheet_layout.specs.Layout.{sheetBytes}
+use Rattle.accept.specs.Check.{checkOf}
+use Rattle.accept.specs.Meaning as meaning
+use Rattle.accept.proofs.Meaning.{only}
 use Rattle.work.specs.Meaning.{Worked, WorksOut, refused, wrong-length, overdrawn, passes}
 use Rattle.work.proofs.Meaning.{overdraws, covered}
 

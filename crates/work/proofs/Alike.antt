@@ -12,16 +12,16 @@ use Rattle.model.specs.Stocks.{permits}
 use Rattle.model.proofs.Alike.{under-alike}
 use Rattle.graph.specs.Judge.{judgeOf}
 use Rattle.graph.specs.Graph.{graphOf}
-use Rattle.tables.proofs.SameRows.{SameRows, SameOpening, rows-sym, opening-sym}
+use Rattle.graph_tables.proofs.SameRows.{SameRows, SameOpening, rows-sym, opening-sym}
 use Rattle.graph.specs.Lines.{SameButLines}
 use Rattle.graph.proofs.Lines.{same-rows, same-opening}
 use Rattle.graph.proofs.Alike.{alike}
 use Rattle.graph.proofs.Agree.{Agree, agree, said, judged-alike, pass-alike}
-use Rattle.layout.specs.Layout.{sheetBytes}
-use Rattle.formed.specs.Sheet.{sheetIn}
-use Rattle.rules.specs.Sheet.{shape}
-use Rattle.permit.specs.Meaning.{Checks}
-use Rattle.permit.proofs.Alike.{same-shape, well, holds, checks-alike}
+use Rattle.sheet_layout.specs.Layout.{sheetBytes}
+use Rattle.sheet_formed.specs.Sheet.{sheetIn}
+use Rattle.rule_test.specs.Sheet.{shape}
+use Rattle.accept.specs.Meaning.{Checks}
+use Rattle.accept.proofs.Alike.{same-shape, well, holds, checks-alike}
 use Rattle.work.specs.Meaning.{Worked, WorksOut, refused, wrong-length, overdrawn, passes}
 use Rattle.work.proofs.Agree.{wrote}
 use Rattle.work.proofs.Only.{under-each, if-refused, if-wrong}

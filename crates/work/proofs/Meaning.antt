@@ -20,21 +20,21 @@ use Rattle.model.specs.Program.{steps}
 use Rattle.model.proofs.Setting.{Told}
 use Rattle.model.proofs.Attained.{Attained}
 use Rattle.model.proofs.Exact.{greatest, reached, smallest, missing}
-use Rattle.tables.specs.declared.Tables.{Tables}
-use Rattle.tables.specs.Trailer.{tablesOf}
+use Rattle.graph_tables.specs.declared.Tables.{Tables}
+use Rattle.graph_tables.specs.Trailer.{tablesOf}
 use Rattle.graph_places.specs.Places.{overdrawnAt}
 use Rattle.graph.specs.Judge.{judgeOf}
 use Rattle.graph.specs.Judgement.{shapeOf}
-use Rattle.nodes.specs.Program.{programOf, Brings, Overdrawing}
-use Rattle.nodes.proofs.Setting.{setting}
-use Rattle.layout.specs.declared.Shape.{Shape}
-use Rattle.layout.specs.Layout.{blockCount, sheetBytes}
-use Rattle.formed.specs.Ill.{illBlock, firstIll}
-use Rattle.formed.specs.Sheet.{sheetIn}
-use Rattle.rules.specs.Sheet.{WellFormed, Holds, IsReached, stockIn}
+use Rattle.graph_nodes.specs.Program.{programOf, Brings, Overdrawing}
+use Rattle.graph_nodes.proofs.Setting.{setting}
+use Rattle.sheet_layout.specs.declared.Shape.{Shape}
+use Rattle.sheet_layout.specs.Layout.{blockCount, sheetBytes}
+use Rattle.sheet_formed.specs.Ill.{illBlock, firstIll}
+use Rattle.sheet_formed.specs.Sheet.{sheetIn}
+use Rattle.rule_test.specs.Sheet.{WellFormed, Holds, IsReached, stockIn}
 use Rattle.accept_draws.specs.Draws.{uncoveredAt}
-use Rattle.permit.specs.Meaning.{IsCovered}
-use Rattle.permit.proofs.Draws.{uncovered-says, covered-says}
+use Rattle.accept.specs.Meaning.{IsCovered}
+use Rattle.accept.proofs.Draws.{uncovered-says, covered-says}
 use Rattle.work.specs.Meaning.{Worked, WorksOut, overdrawn, passes}
 
 module _ (f : List ℕ) where

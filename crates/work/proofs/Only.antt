@@ -11,18 +11,18 @@ use Rattle.answer.specs.declared.Answer.the-variants.{Pass, BadSheet}
 use Rattle.answer.proofs.Settled.{says-only}
 use Rattle.model.specs.Rules.{Under}
 use Rattle.model.specs.Stocks.{permits}
-use Rattle.tables.specs.Trailer.{tablesOf}
+use Rattle.graph_tables.specs.Trailer.{tablesOf}
 use Rattle.graph.specs.Judge.{judgeOf}
 use Rattle.graph.specs.Judgement.{shapeOf}
 use Rattle.graph.specs.Graph.{graphOf}
 use Rattle.graph.proofs.Whole.{limits}
-use Rattle.layout.specs.declared.Shape.{Shape}
-use Rattle.layout.specs.Layout.{methodAt, exitAt, nodeAt, sheetBytes, blockCount, blockSize, blockAt}
-use Rattle.layout.proofs.Blocks.{at-method, at-exit, at-node}
+use Rattle.sheet_layout.specs.declared.Shape.{Shape}
+use Rattle.sheet_layout.specs.Layout.{methodAt, exitAt, nodeAt, sheetBytes, blockCount, blockSize, blockAt}
+use Rattle.sheet_layout.proofs.Blocks.{at-method, at-exit, at-node}
 use Rattle.sheet.specs.Read.{SameWords}
-use Rattle.formed.proofs.Judged.{Formed, formed}
-use Rattle.rules.specs.Sheet.{sheet, WellFormed}
-use Rattle.permit.specs.Check.{checkOf}
+use Rattle.sheet_formed.proofs.Judged.{Formed, formed}
+use Rattle.rule_test.specs.Sheet.{sheet, WellFormed}
+use Rattle.accept.specs.Check.{checkOf}
 use Rattle.work.specs.Meaning.{Worked, WorksOut, refused, wrong-length, overdrawn, passes}
 use Rattle.work.proofs.Agree.{wrote, agree}
 use Rattle.work.proofs.Words.{same-sheet}

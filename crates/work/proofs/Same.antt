@@ -12,14 +12,14 @@ use Rattle.effect.proofs.Laws.{stock-anti, at-most-anti}
 use Rattle.effect.proofs.Coordinate.{stock-at-complete, at-most-at-complete}
 use Rattle.model.specs.Rules.{Below, AtMost}
 use Rattle.model.specs.Stocks.{permits}
-use Rattle.layout.specs.declared.Shape.{Shape}
-use Rattle.layout.specs.Layout.{stockSize, effectSize, isStock, blockSize, blockAt}
-use Rattle.layout.proofs.Blocks.{stock-size, effect-size}
+use Rattle.sheet_layout.specs.declared.Shape.{Shape}
+use Rattle.sheet_layout.specs.Layout.{stockSize, effectSize, isStock, blockSize, blockAt}
+use Rattle.sheet_layout.proofs.Blocks.{stock-size, effect-size}
 use Rattle.sheet.specs.Read.{sheetWord, SameWords, markAt, stockAt, effectAt}
 use Rattle.sheet.specs.Write.{stockField, effectField}
 use Rattle.sheet.proofs.Back.{stock-word-read, effect-word-read, stock-read, effect-read}
-use Rattle.formed.specs.Ill.{countsFit}
-use Rattle.formed.proofs.Judged.{Formed, counts-le}
+use Rattle.sheet_formed.specs.Ill.{countsFit}
+use Rattle.sheet_formed.proofs.Judged.{Formed, counts-le}
 
 -- a block's words are its mark, then z of each type
 block-words : (z t w : ℕ) (s r : List ℕ) → 0 < z → markAt s w ≡ markAt r w

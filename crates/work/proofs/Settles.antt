@@ -11,18 +11,18 @@ use Rattle.answer.specs.declared.Answer.the-variants.{Pass}
 use Rattle.model.specs.Stocks.{permits}
 use Rattle.model.specs.Program.{steps}
 use Rattle.model.proofs.Greatest.{Greatest}
-use Rattle.tables.specs.declared.Tables.{Tables}
-use Rattle.tables.specs.Trailer.{tablesOf}
+use Rattle.graph_tables.specs.declared.Tables.{Tables}
+use Rattle.graph_tables.specs.Trailer.{tablesOf}
 use Rattle.graph.specs.Judge.{judgeOf}
 use Rattle.graph.specs.Judgement.{shapeOf}
-use Rattle.nodes.specs.Program.{programOf}
-use Rattle.layout.specs.declared.Shape.{Shape}
-use Rattle.layout.specs.Layout.{sheetBytes}
+use Rattle.graph_nodes.specs.Program.{programOf}
+use Rattle.sheet_layout.specs.declared.Shape.{Shape}
+use Rattle.sheet_layout.specs.Layout.{sheetBytes}
 use Rattle.sheet.specs.Write.{blanked}
-use Rattle.rules.specs.Sheet.{sheet}
-use Rattle.lower.proofs.Good.{height}
+use Rattle.rule_test.specs.Sheet.{sheet}
+use Rattle.engine_lower.proofs.Good.{height}
 use Rattle.engine_row.specs.Lowers.{sheetOf, wroteOf}
-use Rattle.sweep.specs.Sweep.{sweepOf}
+use Rattle.engine_sweep.specs.Sweep.{sweepOf}
 use Rattle.work.specs.Swept.{Swept, unswept, again, Settled}
 use Rattle.work.specs.Meaning.{Worked}
 use Rattle.work.proofs.Meaning.{greatest-of-all}

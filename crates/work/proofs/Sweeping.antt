@@ -8,25 +8,25 @@ use Rattle.answer.specs.declared.Answer.the-variants.{Pass, BadSheet}
 use Rattle.answer.specs.Number.{numberOf, SaysAs}
 use Rattle.answer.proofs.Unpack.{zero-pass}
 use Rattle.answer.proofs.Settled.{says}
-use Rattle.tables.specs.declared.Tables.{Tables}
-use Rattle.tables.specs.Trailer.{tablesOf}
+use Rattle.graph_tables.specs.declared.Tables.{Tables}
+use Rattle.graph_tables.specs.Trailer.{tablesOf}
 use Rattle.graph.specs.Judge.{judgeIn, judgeOf}
 use Rattle.graph.specs.declared.Judgement.{Judgement}
 use Rattle.graph.specs.Judgement.{shapeOf, judgedOf}
 use Rattle.graph.proofs.Whole.{own-shape}
-use Rattle.layout.specs.declared.Shape.{Shape}
-use Rattle.layout.specs.Layout.{sheetBytes}
+use Rattle.sheet_layout.specs.declared.Shape.{Shape}
+use Rattle.sheet_layout.specs.Layout.{sheetBytes}
 use Rattle.sheet.specs.Write.{blanked}
-use Rattle.demand.specs.Walk.{Ask, meets}
-use Rattle.demand.proofs.Asks.{Asks}
-use Rattle.rules.proofs.Exact.{rules-kept}
+use Rattle.rule_ask.specs.Walk.{Ask, meets}
+use Rattle.rule_ask.proofs.Asks.{Asks}
+use Rattle.rule_test.proofs.Exact.{rules-kept}
 use Rattle.accept_draws.specs.Draws.{verdictOf}
-use Rattle.lower.proofs.Good.{height, Good}
-use Rattle.lower.proofs.Block.{blank-good}
+use Rattle.engine_lower.proofs.Good.{height, Good}
+use Rattle.engine_lower.proofs.Block.{blank-good}
 use Rattle.engine_row.specs.Ready.{Ready}
 use Rattle.engine_row.specs.Lowers.{sheetOf, wroteOf}
-use Rattle.sweep.specs.Sweep.{sweepOf}
-use Rattle.sweep.proofs.Sweeps.{sweep-done, settled}
+use Rattle.engine_sweep.specs.Sweep.{sweepOf}
+use Rattle.engine_sweep.proofs.Sweeps.{sweep-done, settled}
 use Rattle.work.specs.Swept.{Swept, unswept, again, Settled}
 use Rattle.work.specs.Meaning.{Worked, WorksOut, wrong-length}
 use Rattle.work.proofs.Meaning.{worked, verdict}

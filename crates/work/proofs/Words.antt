@@ -9,9 +9,9 @@ use lib.ListN.{length, getD}
 use lib.Seq.{ext-getD}
 use Rattle.words.specs.Bytes.{byteAt, wordAt}
 use Rattle.words.proofs.Read.{byte-lt, byte-is}
-use Rattle.layout.specs.declared.Shape.{Shape}
-use Rattle.layout.specs.Layout.{methodAt, nodeAt, sheetWords, sheetBytes, blockCount, blockSize, blockAt}
-use Rattle.layout.proofs.Blocks.{at-method, at-node, next, at-end}
+use Rattle.sheet_layout.specs.declared.Shape.{Shape}
+use Rattle.sheet_layout.specs.Layout.{methodAt, nodeAt, sheetWords, sheetBytes, blockCount, blockSize, blockAt}
+use Rattle.sheet_layout.proofs.Blocks.{at-method, at-node, next, at-end}
 use Rattle.sheet.specs.Read.{sheetWord, SameWords}
 
 -- the block in which a word stands

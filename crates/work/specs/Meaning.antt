@@ -11,12 +11,12 @@ use Rattle.effect.specs.declared.Stock.{Stock}
 use Rattle.effect.specs.Coordinate.{right, count, at}
 use Rattle.model.specs.Rules.{Under}
 use Rattle.model.specs.Stocks.{permits}
-use Rattle.tables.specs.Trailer.{tablesOf}
+use Rattle.graph_tables.specs.Trailer.{tablesOf}
 use Rattle.graph_places.specs.Places.{overdrawnAt}
 use Rattle.graph.specs.Judge.{judgeOf}
-use Rattle.nodes.specs.Program.{programOf, Brings, Overdrawing}
-use Rattle.layout.specs.Layout.{sheetBytes}
-use Rattle.rules.specs.Sheet.{shape, sheet, WellFormed, Holds, IsReached, stockIn}
+use Rattle.graph_nodes.specs.Program.{programOf, Brings, Overdrawing}
+use Rattle.sheet_layout.specs.Layout.{sheetBytes}
+use Rattle.rule_test.specs.Sheet.{shape, sheet, WellFormed, Holds, IsReached, stockIn}
 
 -- The sheet r that is written.
 pub record Worked (f r : List ℕ) : Type 0 where

@@ -3,10 +3,10 @@ use Prim.Native.Nat.{ℕ}
 use mathlib.Core.Path.{_≡_}
 use mathlib.Core.Bool.{Bool, false}
 use mathlib.Core.List.{List}
-use Rattle.tables.specs.declared.Tables.{Tables}
-use Rattle.layout.specs.declared.Shape.{Shape}
+use Rattle.graph_tables.specs.declared.Tables.{Tables}
+use Rattle.sheet_layout.specs.declared.Shape.{Shape}
 use Rattle.engine_row.specs.Lowers.{sheetOf, wroteOf}
-use Rattle.sweep.specs.Sweep.{sweepOf}
+use Rattle.engine_sweep.specs.Sweep.{sweepOf}
 
 -- the sheet r is what some number of sweeps leave of s
 pub data Swept (f : List ℕ) (t : Tables) (x : Shape) (s : List ℕ) : List ℕ → Type 0 where

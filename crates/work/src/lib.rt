@@ -1,11 +1,11 @@
 // Work out: a graph file in, the verdict and the permission sheet out.
 use answer::Answer;
 use graph::Judgement;
-use layout::Shape;
-use tables::Tables;
+use graph_tables::Tables;
+use sheet_layout::Shape;
 ghost use mathlib.Core.Path.{_≡_};
 ghost use Rattle.answer.specs.declared.Answer.the-variants.{Pass};
-ghost use Rattle.tables.specs.Trailer.{tablesOf};
+ghost use Rattle.graph_tables.specs.Trailer.{tablesOf};
 ghost use Rattle.graph.specs.Judge.{judgeIn};
 ghost use Rattle.graph.specs.Judgement.{shapeOf, judgedOf};
 ghost use Rattle.sheet.specs.Write.{blanked};
@@ -20,7 +20,7 @@ fn settle(f: &[u8], t: Tables, x: Shape, s: &mut [u8])
 {
     sheet::blank(s);
     let mut backwards = false;
-    while sweep::once(f, t, x, s, backwards) {
+    while engine_sweep::once(f, t, x, s, backwards) {
         backwards = !backwards;
     }
 }
@@ -30,7 +30,7 @@ fn of_passed(f: &[u8], t: Tables, x: Shape, s: &mut [u8]) -> Answer
     requires { ⌜ (judgeIn (now f) t ≡ Pass) × (t ≡ tablesOf (now f)) × (x ≡ shapeOf t) ⌝ }
     ensures { λ r. ⌜ WorksOut (now (f .entry)) (now (s .entry)) (now (s .exit)) r ⌝ }
 {
-    if s.len() != layout::sheet_bytes(x) {
+    if s.len() != sheet_layout::sheet_bytes(x) {
         return Answer::BadSheet;
     }
     settle(f, t, x, s);

@@ -5,9 +5,9 @@ use denote.Ref.{now}
 use borrow.Author.Needs.{needs}
 use borrow.Author.Tests.{eq-eqb, ne-eqb}
 use Rattle.effect.specs.Whole.{coversOf}
-use Rattle.tables.specs.Kinds.{drawKind}
-use Rattle.tables.specs.Fields.{nodeKind}
-use Rattle.listing.specs.Node.{isReached, nodeStock}
+use Rattle.graph_tables.specs.Kinds.{drawKind}
+use Rattle.graph_tables.specs.Fields.{nodeKind}
+use Rattle.reach.specs.Node.{isReached, nodeStock}
 use Rattle.accept_draws.specs.Draws.{uncoveredAt}
 use Rattle.accept_draws.proofs.uncovered.Statement.{statement}
 use Rattle.accept_draws.proofs.uncovered.Tie as tie

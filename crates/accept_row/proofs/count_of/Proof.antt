@@ -3,8 +3,8 @@ use mathlib.Core.Path.{_≡_, sym, ap, _∙_}
 use native.Mathlib.Nat.{mul-le-mul}
 use native.Mathlib.Omega.{arith}
 use borrow.Author.Needs.{needs}
-use Rattle.layout.specs.Layout.{sheetBytes}
-use Rattle.layout.proofs.Bounds.{sheet-le}
+use Rattle.sheet_layout.specs.Layout.{sheetBytes}
+use Rattle.sheet_layout.proofs.Bounds.{sheet-le}
 use Rattle.accept_row.proofs.count_of.Statement.{statement}
 use Rattle.accept_row.proofs.count_of.Tie as tie
 

@@ -2,7 +2,7 @@ use borrow.Author.Needs.{needs}
 use Prim.Native.Nat.{_-_}
 use mathlib.Core.Path.{refl}
 use native.Mathlib.Omega.{arith}
-use Rattle.single.specs.Single.{applyOne}
+use Rattle.effect_one.specs.Single.{applyOne}
 use Rattle.effect.specs.Six.{heldAt, oneAt}
 use Rattle.effect.specs.Whole.{applyOf}
 use Rattle.effect.proofs.Filled.{Helds, helds-more, helds-all}

@@ -2,7 +2,7 @@ use borrow.Author.Needs.{needs}
 use Prim.Native.Nat.{_-_, _≤_}
 use mathlib.Core.Path.{_≡_}
 use native.Mathlib.Omega.{arith}
-use Rattle.single.specs.Formulas.{normalOne}
+use Rattle.effect_one.specs.Formulas.{normalOne}
 use Rattle.effect.specs.Six.{oneAt}
 use Rattle.effect.specs.Whole.{normalOf}
 use Rattle.effect.proofs.Filled.{allBelow, all-none, all-more, all-all}

@@ -1,6 +1,6 @@
 use borrow.Author.Needs.{needs}
 use mathlib.Core.Path.{_∙_, ap}
-use Rattle.single.specs.declared.One.{One}
+use Rattle.effect_one.specs.declared.One.{One}
 use Rattle.effect.specs.Six.{effectOf}
 use Rattle.effect.specs.Whole.{nothingDone}
 use Rattle.effect.proofs.Laws.{nothing-normal}

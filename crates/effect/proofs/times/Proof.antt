@@ -1,6 +1,6 @@
 use mathlib.Core.Path.{ap}
 use borrow.Author.Needs.{needs}
-use Rattle.single.specs.Formulas.{timesOne}
+use Rattle.effect_one.specs.Formulas.{timesOne}
 use Rattle.effect.specs.declared.Stock.{Stock}
 use Rattle.effect.specs.Six.{oneAt}
 use Rattle.effect.specs.Whole.{timesOf}

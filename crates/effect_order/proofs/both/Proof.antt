@@ -2,7 +2,7 @@ use borrow.Author.Needs.{needs}
 use Prim.Native.Nat.{_-_}
 use mathlib.Core.Path.{refl}
 use native.Mathlib.Omega.{arith}
-use Rattle.single.specs.Formulas.{bothOne}
+use Rattle.effect_one.specs.Formulas.{bothOne}
 use Rattle.effect.specs.Six.{oneAt}
 use Rattle.effect.specs.Whole.{bothOf}
 use Rattle.effect.proofs.Filled.{Ones, ones-more, ones-all, unfilled}

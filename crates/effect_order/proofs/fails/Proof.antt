@@ -1,5 +1,5 @@
 use borrow.Author.Needs.{needs}
-use Rattle.single.specs.Formulas.{atMostOne}
+use Rattle.effect_one.specs.Formulas.{atMostOne}
 use Rattle.effect.specs.Six.{oneAt}
 use Rattle.effect.specs.Whole.{failsOf}
 use Rattle.effect.proofs.Six.{made-lowest}

@@ -2,7 +2,7 @@ use borrow.Author.Needs.{needs}
 use Prim.Native.Nat.{_-_}
 use mathlib.Core.Path.{refl}
 use native.Mathlib.Omega.{arith}
-use Rattle.single.specs.Formulas.{lowerHeld}
+use Rattle.effect_one.specs.Formulas.{lowerHeld}
 use Rattle.effect.specs.Six.{heldAt}
 use Rattle.effect.specs.Whole.{lowerOf}
 use Rattle.effect.proofs.Filled.{Helds, helds-more, helds-all}

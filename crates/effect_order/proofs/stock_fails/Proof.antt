@@ -4,7 +4,7 @@ use Prim.Native.Nat.{ℕ, _-_, _≤_}
 use mathlib.Core.Path.{refl, sym, ap, _∙_}
 use mathlib.Core.Bool.{Bool, not}
 use Rattle.words.proofs.Lowest.{NoneBelow, scan-found, scan-none}
-use Rattle.single.specs.Formulas.{heldAtMost}
+use Rattle.effect_one.specs.Formulas.{heldAtMost}
 use Rattle.effect.specs.declared.Stock.{Stock}
 use Rattle.effect.specs.Six.{heldAt}
 use Rattle.effect.specs.Whole.{stockFailsOf}

@@ -4,7 +4,7 @@ use lib.ListN.{getD}
 use native.Mathlib.Omega.{arith}
 use denote.Ref.{now}
 use borrow.Author.Needs.{needs}
-use Rattle.demand.proofs.Turned.{turned-inside}
+use Rattle.rule_ask.proofs.Turned.{turned-inside}
 use Rattle.engine_flags.specs.Flags.{Clear}
 use Rattle.engine_flags.proofs.Flags.{clear-one}
 use Rattle.engine_flags.proofs.next.Statement.{statement}

@@ -3,7 +3,7 @@ use mathlib.Core.Path.{_≡_, ap, _∙_}
 use native.Mathlib.Omega.{arith}
 use denote.Ref.{now}
 use borrow.Author.Needs.{needs}
-use Rattle.tables.specs.Fields.{nodeMethod}
+use Rattle.graph_tables.specs.Fields.{nodeMethod}
 use Rattle.engine_flags.proofs.Flags.{woken-none, call-inside, asleep}
 use Rattle.engine_flags.proofs.pass_on.Statement.{statement}
 use Rattle.engine_flags.proofs.pass_on.Tie as tie

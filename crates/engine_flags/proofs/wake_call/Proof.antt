@@ -2,8 +2,8 @@ use Prim.Native.Nat.{_+_}
 use mathlib.Core.Path.{_≡_, sym, ap, _∙_}
 use native.Mathlib.Omega.{arith}
 use borrow.Author.Needs.{needs}
-use Rattle.tables.specs.declared.Table.the-variants.{Flow}
-use Rattle.rows.proofs.Stretches.{to-within}
+use Rattle.graph_tables.specs.declared.Table.the-variants.{Flow}
+use Rattle.graph_rows.proofs.Stretches.{to-within}
 use Rattle.engine_flags.proofs.Flags.{woken-more, still-able, sorted, all-kept, call-inside}
 use Rattle.engine_flags.proofs.wake_call.Statement.{statement}
 use Rattle.engine_flags.proofs.wake_call.Tie as tie

@@ -2,7 +2,7 @@ use Prim.Native.Nat.{ℕ, _-_, _≤_, _<_}
 use native.Mathlib.Omega.{arith}
 use denote.Ref.{now}
 use borrow.Author.Needs.{needs}
-use Rattle.rows.specs.Rows.{targetOf}
+use Rattle.graph_rows.specs.Rows.{targetOf}
 use Rattle.engine_flags.specs.Flags.{Waits, Woken}
 use Rattle.engine_flags.proofs.Flags.{woken-none, woken-more, wait-more, leads-inside}
 use Rattle.engine_flags.proofs.wake_each.Statement.{statement}

@@ -3,8 +3,8 @@ use native.Mathlib.Omega.{arith}
 use borrow.Author.Needs.{needs}
 use borrow.Author.Tests.{eqb-true}
 use denote.Ref.{now}
-use Rattle.tables.specs.Kinds.{returnKind, throwKind}
-use Rattle.tables.specs.Fields.{nodeKind}
+use Rattle.graph_tables.specs.Kinds.{returnKind, throwKind}
+use Rattle.graph_tables.specs.Fields.{nodeKind}
 use Rattle.engine_flags.proofs.wake_end.Statement.{statement}
 use Rattle.engine_flags.proofs.wake_end.Tie as tie
 

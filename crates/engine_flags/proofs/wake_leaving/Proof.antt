@@ -1,9 +1,9 @@
 use mathlib.Core.Path.{_≡_, sym, ap, _∙_}
 use mathlib.Core.Bool.{true≢false}
 use borrow.Author.Needs.{needs}
-use Rattle.tables.specs.declared.Table.the-variants.{Catches}
-use Rattle.rows.specs.Rows.{noRows}
-use Rattle.rows.proofs.Stretches.{to-within}
+use Rattle.graph_tables.specs.declared.Table.the-variants.{Catches}
+use Rattle.graph_rows.specs.Rows.{noRows}
+use Rattle.graph_rows.proofs.Stretches.{to-within}
 use Rattle.engine_flags.proofs.Flags.{sorted}
 use Rattle.engine_flags.proofs.wake_leaving.Statement.{statement}
 use Rattle.engine_flags.proofs.wake_leaving.Tie as tie

@@ -2,7 +2,7 @@ use Prim.Native.Nat.{_+_}
 use mathlib.Core.Path.{_≡_, sym, ap, _∙_}
 use native.Mathlib.Omega.{arith}
 use borrow.Author.Needs.{needs}
-use Rattle.tables.specs.declared.Table.the-variants.{Methods, Flow}
+use Rattle.graph_tables.specs.declared.Table.the-variants.{Methods, Flow}
 use Rattle.engine_flags.proofs.Flags.{woken-none, leads-inside}
 use Rattle.engine_flags.proofs.wake_row.Statement.{statement}
 use Rattle.engine_flags.proofs.wake_row.Tie as tie

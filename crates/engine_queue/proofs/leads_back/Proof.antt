@@ -5,7 +5,7 @@ use native.Mathlib.Decide.{decLt}
 use native.Mathlib.Omega.{arith}
 use denote.Ref.{now}
 use borrow.Author.Needs.{needs}
-use Rattle.tables.specs.Fields.{flowTo}
+use Rattle.graph_tables.specs.Fields.{flowTo}
 use Rattle.engine_queue.proofs.leads_back.Statement.{statement}
 use Rattle.engine_queue.proofs.leads_back.Tie as tie
 

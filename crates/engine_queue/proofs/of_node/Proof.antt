@@ -1,8 +1,8 @@
 use mathlib.Core.Path.{_≡_, sym, _∙_}
 use native.Mathlib.Omega.{arith}
 use borrow.Author.Needs.{needs}
-use Rattle.tables.specs.declared.Table.the-variants.{Calls}
-use Rattle.rows.proofs.Stretches.{to-within}
+use Rattle.graph_tables.specs.declared.Table.the-variants.{Calls}
+use Rattle.graph_rows.proofs.Stretches.{to-within}
 use Rattle.engine_row.proofs.Inside.{sorted}
 use Rattle.engine_queue.proofs.Moves.{node-calls, node-end}
 use Rattle.engine_queue.proofs.of_node.Statement.{statement}

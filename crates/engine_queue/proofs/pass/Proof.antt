@@ -1,7 +1,7 @@
 use Prim.Native.Nat.{_-_}
 use native.Mathlib.Omega.{arith}
 use borrow.Author.Needs.{needs}
-use Rattle.demand.proofs.Turned.{turned-inside}
+use Rattle.rule_ask.proofs.Turned.{turned-inside}
 use Rattle.engine_row.proofs.Inside.{limit}
 use Rattle.engine_queue.specs.Queue.{Passing}
 use Rattle.engine_queue.proofs.Moves.{passing-none, passing-more, passing-on, passing-all, ready-long, wide-long}

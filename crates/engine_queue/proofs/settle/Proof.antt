@@ -1,7 +1,7 @@
 use mathlib.Core.Path.{sym, ap, _∙_}
 use lib.ListN.{replicate}
 use borrow.Author.Needs.{needs}
-use Rattle.lower.proofs.Good.{height}
+use Rattle.engine_lower.proofs.Good.{height}
 use Rattle.engine_queue.specs.Queue.{Queue}
 use Rattle.engine_queue.proofs.Moves.{all-wait, quiet-settled, ready-long}
 use Rattle.engine_queue.proofs.settle.Statement.{statement}

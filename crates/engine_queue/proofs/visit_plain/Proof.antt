@@ -1,9 +1,9 @@
 use mathlib.Core.Path.{_≡_}
 use native.Mathlib.Omega.{arith}
 use borrow.Author.Needs.{needs}
-use Rattle.tables.specs.declared.Table.the-variants.{Flow}
+use Rattle.graph_tables.specs.declared.Table.the-variants.{Flow}
 use Rattle.words.proofs.Tests.{and-l}
-use Rattle.rows.proofs.Stretches.{to-within}
+use Rattle.graph_rows.proofs.Stretches.{to-within}
 use Rattle.engine_row.proofs.Inside.{sorted, limit}
 use Rattle.engine_queue.proofs.Moves.{plain-waits, plain-done}
 use Rattle.engine_queue.proofs.visit_plain.Statement.{statement}

@@ -1,8 +1,8 @@
 use mathlib.Core.Path.{_∙_}
 use borrow.Author.Needs.{needs}
-use Rattle.tables.specs.declared.Table.the-variants.{Flow}
-use Rattle.rows.proofs.Stretches.{to-within}
-use Rattle.demand.specs.Walk.{afterWalk}
+use Rattle.graph_tables.specs.declared.Table.the-variants.{Flow}
+use Rattle.graph_rows.proofs.Stretches.{to-within}
+use Rattle.rule_ask.specs.Walk.{afterWalk}
 use Rattle.engine_row.proofs.Inside.{sorted}
 use Rattle.engine_row.proofs.after_call.Statement.{statement}
 use Rattle.engine_row.proofs.after_call.Tie as tie

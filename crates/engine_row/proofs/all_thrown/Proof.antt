@@ -1,6 +1,6 @@
 use Prim.Native.Nat.{_-_}
 use borrow.Author.Needs.{needs}
-use Rattle.demand.specs.Walk.{thrownWalk}
+use Rattle.rule_ask.specs.Walk.{thrownWalk}
 use Rattle.engine_row.specs.Lowers.{sheetOf, lowers}
 use Rattle.engine_row.proofs.Turn.{Turning, turning-start, turning-more, turning-end}
 use Rattle.engine_row.proofs.Inside.{still-ready}

@@ -5,14 +5,14 @@ use Prim.Native.Nat.{ℕ}
 use denote.Ref.{now}
 use borrow.Author.Needs.{needs}
 use Rattle.effect.specs.declared.Effect.{Effect}
-use Rattle.tables.specs.declared.Table.the-variants.{Flow}
-use Rattle.tables.specs.Fields.{flowFrom, flowTo}
-use Rattle.layout.specs.declared.Shape.{Shape}
-use Rattle.layout.specs.Layout.{nodeAt}
+use Rattle.graph_tables.specs.declared.Table.the-variants.{Flow}
+use Rattle.graph_tables.specs.Fields.{flowFrom, flowTo}
+use Rattle.sheet_layout.specs.declared.Shape.{Shape}
+use Rattle.sheet_layout.specs.Layout.{nodeAt}
 use Rattle.sheet.specs.Under.{effectUnder}
-use Rattle.lower.specs.Lower.{effectTo}
-use Rattle.demand.specs.Demand.{goesIn, steppedIn}
-use Rattle.demand.specs.Walk.{of-effect, flowWalk}
+use Rattle.engine_lower.specs.Lower.{effectTo}
+use Rattle.rule_ask.specs.Gives.{goesIn, steppedIn}
+use Rattle.rule_ask.specs.Walk.{of-effect, flowWalk}
 use Rattle.engine_row.specs.Lowers.{lowers}
 use Rattle.engine_row.proofs.Inside.{few-types, node-inside, leads-inside}
 use Rattle.engine_row.proofs.along_flow.Statement.{statement}

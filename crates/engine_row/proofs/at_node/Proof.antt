@@ -2,8 +2,8 @@ use mathlib.Core.Path.{sym, ap, _∙_}
 use denote.Ref.{now}
 use borrow.Author.Needs.{needs}
 use Rattle.sheet.specs.Read.{marked}
-use Rattle.demand.specs.Walk.{nodeWalk}
-use Rattle.demand.proofs.Quiet.{quiet}
+use Rattle.rule_ask.specs.Walk.{nodeWalk}
+use Rattle.rule_ask.proofs.Quiet.{quiet}
 use Rattle.engine_row.specs.Lowers.{sheetOf, lowers}
 use Rattle.engine_row.proofs.at_node.Statement.{statement}
 use Rattle.engine_row.proofs.at_node.Tie as tie

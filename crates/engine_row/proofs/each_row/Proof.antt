@@ -2,9 +2,9 @@ use Prim.Native.Nat.{ℕ, _-_}
 use mathlib.Core.Path.{ap, _∙_}
 use native.Mathlib.Omega.{arith}
 use borrow.Author.Needs.{needs}
-use Rattle.rows.specs.Rows.{targetOf}
-use Rattle.layout.specs.Layout.{nodeAt}
-use Rattle.demand.specs.Walk.{of-effect, rowsWalk}
+use Rattle.graph_rows.specs.Rows.{targetOf}
+use Rattle.sheet_layout.specs.Layout.{nodeAt}
+use Rattle.rule_ask.specs.Walk.{of-effect, rowsWalk}
 use Rattle.engine_row.specs.Lowers.{lowers}
 use Rattle.engine_row.proofs.Turn.{Turning, turning-start, turning-more, turning-end}
 use Rattle.engine_row.proofs.Inside.{few-types, node-inside, leads-inside, still-ready}

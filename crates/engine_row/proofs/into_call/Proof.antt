@@ -2,9 +2,9 @@ use mathlib.Core.Path.{sym, ap, _∙_}
 use denote.Ref.{now}
 use borrow.Author.Needs.{needs}
 use Rattle.effect.specs.Whole.{applyOf}
-use Rattle.layout.specs.Layout.{methodAt}
+use Rattle.sheet_layout.specs.Layout.{methodAt}
 use Rattle.sheet.specs.Read.{stockAt, marked}
-use Rattle.demand.specs.Walk.{intoWalk}
+use Rattle.rule_ask.specs.Walk.{intoWalk}
 use Rattle.engine_row.proofs.Inside.{few-types, method-inside}
 use Rattle.engine_row.proofs.into_call.Statement.{statement}
 use Rattle.engine_row.proofs.into_call.Tie as tie

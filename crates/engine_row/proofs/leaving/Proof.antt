@@ -1,10 +1,10 @@
 use mathlib.Core.Path.{sym, ap, _∙_}
 use native.Mathlib.Omega.{arith}
 use borrow.Author.Needs.{needs}
-use Rattle.tables.specs.declared.Table.the-variants.{Catches}
-use Rattle.rows.specs.Rows.{noRows}
-use Rattle.rows.proofs.Stretches.{to-within}
-use Rattle.demand.specs.Walk.{leavingWalk}
+use Rattle.graph_tables.specs.declared.Table.the-variants.{Catches}
+use Rattle.graph_rows.specs.Rows.{noRows}
+use Rattle.graph_rows.proofs.Stretches.{to-within}
+use Rattle.rule_ask.specs.Walk.{leavingWalk}
 use Rattle.engine_row.proofs.Inside.{few-types, sorted, method-of, exit-inside}
 use Rattle.engine_row.proofs.leaving.Statement.{statement}
 use Rattle.engine_row.proofs.leaving.Tie as tie

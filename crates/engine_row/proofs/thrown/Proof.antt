@@ -2,7 +2,7 @@ use mathlib.Core.Path.{sym, ap, _∙_}
 use denote.Ref.{now}
 use borrow.Author.Needs.{needs}
 use Rattle.sheet.specs.Read.{marked}
-use Rattle.demand.specs.Walk.{thrownWalk}
+use Rattle.rule_ask.specs.Walk.{thrownWalk}
 use Rattle.engine_row.proofs.thrown.Statement.{statement}
 use Rattle.engine_row.proofs.thrown.Tie as tie
 

@@ -1,7 +1,7 @@
 use mathlib.Core.Path.{_≡_, sym, ap, subst, _∙_}
 use denote.Ref.{now}
 use borrow.Author.Needs.{needs}
-use Rattle.layout.specs.Layout.{Within}
+use Rattle.sheet_layout.specs.Layout.{Within}
 use Rattle.graph.specs.Judge.{judgeIn, judgeOf}
 use Rattle.graph.specs.Judgement.{shapeFor}
 use Rattle.graph.specs.Meaning.{Judges}

@@ -4,7 +4,7 @@ use denote.Ref.{now}
 use borrow.Author.Count.{below-more, below-none}
 use borrow.Author.Needs.{needs}
 use Rattle.words.proofs.Lowest.{NoneBelow, scan-found, scan-none}
-use Rattle.refuse.specs.Bad.{uncalled}
+use Rattle.graph_refuse.specs.Bad.{uncalled}
 use Rattle.graph.proofs.lowest_uncalled.Statement.{statement}
 use Rattle.graph.proofs.lowest_uncalled.Tie as tie
 

@@ -2,9 +2,9 @@ use mathlib.Core.Path.{sym, ap, _∙_}
 use denote.Ref.{now}
 use borrow.Author.Tests.{eq-eqb, ne-eqb}
 use borrow.Author.Needs.{needs}
-use Rattle.tables.specs.declared.Table.the-variants.{Calls}
-use Rattle.refuse.specs.Bad.{uncalled}
-use Rattle.rows.specs.Rows.{noRows}
+use Rattle.graph_tables.specs.declared.Table.the-variants.{Calls}
+use Rattle.graph_refuse.specs.Bad.{uncalled}
+use Rattle.graph_rows.specs.Rows.{noRows}
 use Rattle.graph.proofs.Stages.{no-rows-named}
 use Rattle.graph.proofs.uncalled.Statement.{statement}
 use Rattle.graph.proofs.uncalled.Tie as tie

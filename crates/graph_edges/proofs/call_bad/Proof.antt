@@ -1,4 +1,4 @@
-use Rattle.refuse.specs.Bad.{callBad}
+use Rattle.graph_refuse.specs.Bad.{callBad}
 use borrow.Author.Needs.{needs}
 use Rattle.graph_edges.proofs.call_bad.Statement.{statement}
 use Rattle.graph_edges.proofs.call_bad.Tie as tie

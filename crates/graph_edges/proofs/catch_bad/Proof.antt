@@ -1,4 +1,4 @@
-use Rattle.refuse.specs.Bad.{catchBad}
+use Rattle.graph_refuse.specs.Bad.{catchBad}
 use borrow.Author.Needs.{needs}
 use Rattle.graph_edges.proofs.catch_bad.Statement.{statement}
 use Rattle.graph_edges.proofs.catch_bad.Tie as tie

@@ -1,4 +1,4 @@
-use Rattle.refuse.specs.Bad.{flowBad}
+use Rattle.graph_refuse.specs.Bad.{flowBad}
 use borrow.Author.Needs.{needs}
 use Rattle.graph_edges.proofs.flow_bad.Statement.{statement}
 use Rattle.graph_edges.proofs.flow_bad.Tie as tie

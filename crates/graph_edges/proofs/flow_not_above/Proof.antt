@@ -1,5 +1,5 @@
 use borrow.Author.Tests.{eq-eqb, ne-eqb}
-use Rattle.refuse.specs.Bad.{above, notAbove, flowRow}
+use Rattle.graph_refuse.specs.Bad.{above, notAbove, flowRow}
 use borrow.Author.Needs.{needs}
 use Rattle.graph_edges.proofs.flow_not_above.Statement.{statement}
 use Rattle.graph_edges.proofs.flow_not_above.Tie as tie

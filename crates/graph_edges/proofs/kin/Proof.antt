@@ -5,9 +5,9 @@ use denote.Ref.{now}
 use lib.Dec.{eqb}
 use borrow.Author.Tests.{eq-eqb, ne-eqb}
 use borrow.Author.Needs.{needs}
-use Rattle.tables.specs.Family.{nearest}
-use Rattle.tables.proofs.Family.{nearest-here, nearest-up, nearest-last}
-use Rattle.refuse.specs.Bad.{kin}
+use Rattle.graph_tables.specs.Family.{nearest}
+use Rattle.graph_tables.proofs.Family.{nearest-here, nearest-up, nearest-last}
+use Rattle.graph_refuse.specs.Bad.{kin}
 use Rattle.graph_edges.proofs.kin.Statement.{statement}
 use Rattle.graph_edges.proofs.kin.Tie as tie
 

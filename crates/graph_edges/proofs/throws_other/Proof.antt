@@ -1,7 +1,7 @@
 use mathlib.Core.Path.{sym, _∙_}
 use borrow.Author.Tests.{ne-eqb}
 use borrow.Author.Needs.{needs}
-use Rattle.refuse.specs.Bad.{throwsOther}
+use Rattle.graph_refuse.specs.Bad.{throwsOther}
 use Rattle.graph_edges.proofs.throws_other.Statement.{statement}
 use Rattle.graph_edges.proofs.throws_other.Tie as tie
 

@@ -1,4 +1,4 @@
-use Rattle.tables.specs.Trailer.{tablesOf}
+use Rattle.graph_tables.specs.Trailer.{tablesOf}
 use borrow.Author.Needs.{needs}
 use Rattle.graph_trailer.proofs.read.Statement.{statement}
 use Rattle.graph_trailer.proofs.read.Tie as tie

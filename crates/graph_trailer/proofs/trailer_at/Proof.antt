@@ -1,4 +1,4 @@
-use Rattle.tables.specs.Trailer.{trailerAt}
+use Rattle.graph_tables.specs.Trailer.{trailerAt}
 use borrow.Author.Needs.{needs}
 use Rattle.graph_trailer.proofs.trailer_at.Statement.{statement}
 use Rattle.graph_trailer.proofs.trailer_at.Tie as tie

@@ -1,5 +1,5 @@
-use Rattle.tables.specs.Trailer.{trailer}
-use Rattle.tables.proofs.Counts.{trailer-past}
+use Rattle.graph_tables.specs.Trailer.{trailer}
+use Rattle.graph_tables.proofs.Counts.{trailer-past}
 use mathlib.Core.Path.{sym}
 use borrow.Author.Needs.{needs}
 use Rattle.graph_trailer.proofs.trailer_word.Statement.{statement}

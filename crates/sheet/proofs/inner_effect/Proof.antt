@@ -1,7 +1,7 @@
 use Prim.Native.Nat.{_-_}
 use mathlib.Core.Path.{refl}
 use native.Mathlib.Omega.{arith}
-use Rattle.single.specs.Single.{dropOnly}
+use Rattle.effect_one.specs.Single.{dropOnly}
 use Rattle.sheet.specs.Read.{effectAt}
 use Rattle.sheet.specs.Inner.{oneWords}
 use Rattle.effect.proofs.Filled.{Ones, ones-more, ones-all}

@@ -2,7 +2,7 @@ use Prim.Native.Nat.{_≤_, _-_}
 use mathlib.Core.Path.{_∙_, ap}
 use borrow.Author.Count.{below-none}
 use borrow.Author.Needs.{needs}
-use Rattle.single.specs.Formulas.{atMostOne}
+use Rattle.effect_one.specs.Formulas.{atMostOne}
 use Rattle.effect.specs.Six.{oneAt}
 use Rattle.sheet.specs.Read.{effectAt}
 use Rattle.sheet_compare.proofs.Compare.{UnderBelow, under-more, under-found, under-none}

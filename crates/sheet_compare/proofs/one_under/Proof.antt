@@ -1,5 +1,5 @@
 use mathlib.Core.Path.{sym, _∙_}
-use Rattle.single.specs.Formulas.{atMostOne}
+use Rattle.effect_one.specs.Formulas.{atMostOne}
 use Rattle.sheet_compare.proofs.Compare.{same-under}
 use borrow.Author.Needs.{needs}
 use Rattle.sheet_compare.proofs.one_under.Statement.{statement}

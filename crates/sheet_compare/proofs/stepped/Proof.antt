@@ -2,10 +2,10 @@ use Prim.Native.Nat.{_-_}
 use mathlib.Core.Path.{refl, _∙_}
 use native.Mathlib.Omega.{arith}
 use borrow.Author.Needs.{needs}
-use Rattle.single.specs.Single.{dropOnly}
+use Rattle.effect_one.specs.Single.{dropOnly}
 use Rattle.effect.proofs.Filled.{Ones, ones-more, ones-all}
 use Rattle.sheet_compare.proofs.Compare.{step-all}
-use Rattle.single.specs.Formulas.{thenOne}
+use Rattle.effect_one.specs.Formulas.{thenOne}
 use lib.Dec.{eqb}
 use Rattle.effect.specs.Whole.{oneIf}
 use Rattle.sheet.specs.Inner.{oneWords}

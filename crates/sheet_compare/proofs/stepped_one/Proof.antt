@@ -1,7 +1,7 @@
 use mathlib.Core.Path.{sym, ap, _∙_}
 use borrow.Author.Tests.{eq-eqb, ne-eqb}
 use borrow.Author.Needs.{needs}
-use Rattle.single.specs.Formulas.{thenOne}
+use Rattle.effect_one.specs.Formulas.{thenOne}
 use Rattle.effect.specs.Whole.{oneIf}
 use Rattle.sheet_compare.proofs.stepped_one.Statement.{statement}
 use Rattle.sheet_compare.proofs.stepped_one.Tie as tie

@@ -1,6 +1,6 @@
 use mathlib.Core.Path.{sym, ap, _∙_}
 use borrow.Author.Tests.{eq-eqb, ne-eqb}
-use Rattle.single.specs.Formulas.{thenOne, atMostOne}
+use Rattle.effect_one.specs.Formulas.{thenOne, atMostOne}
 use Rattle.effect.specs.Whole.{oneIf}
 use Rattle.sheet.specs.Inner.{oneWords}
 use Rattle.sheet_compare.proofs.Compare.{word-small, idle-under}

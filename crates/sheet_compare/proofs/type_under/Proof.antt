@@ -1,7 +1,7 @@
 use Prim.Native.Nat.{_<_}
 use mathlib.Core.Path.{sym, _∙_}
 use borrow.Author.Needs.{needs}
-use Rattle.single.specs.Formulas.{atMostOne}
+use Rattle.effect_one.specs.Formulas.{atMostOne}
 use Rattle.sheet.proofs.Types.{one-read, idle-read}
 use Rattle.sheet_compare.proofs.type_under.Statement.{statement}
 use Rattle.sheet_compare.proofs.type_under.Tie as tie

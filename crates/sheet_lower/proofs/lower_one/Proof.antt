@@ -3,7 +3,7 @@ use mathlib.Core.Path.{sym, ap, _∙_}
 use mathlib.Core.Bool.{cond}
 use borrow.Author.Needs.{needs}
 use Rattle.words.specs.Write.{splice}
-use Rattle.single.specs.Formulas.{bothOne}
+use Rattle.effect_one.specs.Formulas.{bothOne}
 use Rattle.sheet.specs.Inner.{oneWords}
 use Rattle.sheet_lower.specs.Lowered.{oneBytes}
 use Rattle.sheet_lower.proofs.lower_one.Statement.{statement}

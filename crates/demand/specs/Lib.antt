@@ -1,2 +1,0 @@
-pub mod Demand
-pub mod Walk

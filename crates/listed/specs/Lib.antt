@@ -1,2 +1,0 @@
-pub mod Lists
-pub mod Runs
