@@ -2,8 +2,8 @@
  *
  * Operations over bytes that the caller lends: whatever the bytes are, and
  * however many, there is an answer. None allocates or keeps anything. Link
- * target/staticlib/libsnellair.a; docs/FORMAT.md has the layout of graph, sheet
- * and listing.
+ * with -lsnellair, as pkg-config says after tools/install; docs/FORMAT.md has
+ * the layout of graph, sheet and listing.
  *
  * All that is asked of the caller: behind a pointer there are as many bytes,
  * of the row as many numbers, as the length after it says, and what is written,
@@ -86,6 +86,8 @@ uint64_t snellair_one_shot(const uint8_t *graph, size_t graph_len);
  * with count 255, and no call row names method 0. That a graph fits says
  * nothing of whether its permits suffice. */
 uint64_t snellair_session(const uint8_t *graph, size_t graph_len);
+
+#define SNELLAIR_VERSION "1.0.0"
 
 /* The parts of an answer: number, type, place, and the source line of the
  * node where the place is one. */
