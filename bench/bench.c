@@ -254,14 +254,20 @@ static void print_heading(const char *unit)
 }
 
 /* Snellair's queue against the peer's worklist, and against its own sweeps. */
+static void print_queue_costs(const char *name, const double cost[OPERATIONS])
+{
+    printf("%-30s | %11.1f %11.1f %6.2f | %11.1f %8.4f\n", name,
+           cost[SNELLAIR_QUEUED], cost[WORKLIST],
+           cost[SNELLAIR_QUEUED] / cost[WORKLIST], cost[SNELLAIR],
+           cost[SNELLAIR_QUEUED] / cost[SNELLAIR]);
+    fflush(stdout);
+}
+
 static void print_queue_row(const char *name, const double cost[OPERATIONS])
 {
     double worklist = cost[SNELLAIR_QUEUED] / cost[WORKLIST];
     double sweeping = cost[SNELLAIR_QUEUED] / cost[SNELLAIR];
-    printf("%-30s | %11.1f %11.1f %6.2f | %11.1f %8.4f\n", name,
-           cost[SNELLAIR_QUEUED], cost[WORKLIST], worklist, cost[SNELLAIR],
-           sweeping);
-    fflush(stdout);
+    print_queue_costs(name, cost);
     note_ratio(&queue_goal, worklist, name);
     if (strcmp(name, bench_cases[ADDON].name) == 0)
         note_ratio(&addon_goal, sweeping, name);
@@ -383,7 +389,7 @@ static void print_limit_graphs(struct subject *s)
             memcpy(worst, us, sizeof us);
     }
     print_queue_row("limit-size graphs, worst of 20", worst);
-    print_queue_row("limit-size graphs, sum of 20", sum);
+    print_queue_costs("limit-size graphs, sum of 20", sum);
 }
 
 static void print_queued(const struct bench_case *c, struct subject *s)

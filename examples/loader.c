@@ -41,6 +41,7 @@ static const char suffices[] = "no run of this add-on lacks a permit";
 /* Room for one byte too many, so that a longer file is seen to be longer. */
 static uint8_t graph[SNELLAIR_LONGEST_GRAPH + 1];
 static uint8_t sheet[SNELLAIR_LONGEST_SHEET + 1];
+static uint8_t area[SNELLAIR_AREA_BYTES];
 
 /* Reads at most `room` bytes; ends the program where a file can't be read. */
 static size_t read_file(const char *path, uint8_t *bytes, size_t room)
@@ -141,8 +142,9 @@ int main(int argc, char **argv)
                    "every permit is asked for at start-up, for good");
     size_t graph_length = read_file(argv[1], graph, sizeof graph);
     if (argc == 2)
-        return report(snellair_work_out(graph, graph_length, sheet,
-                                        sheet_length(graph_length)),
+        return report(snellair_work_out_queued(graph, graph_length, sheet,
+                                               sheet_length(graph_length), area,
+                                               sizeof area),
                       suffices);
     size_t length = read_file(argv[2], sheet, sizeof sheet);
     return report(snellair_check(graph, graph_length, sheet, length), suffices);

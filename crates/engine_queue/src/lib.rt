@@ -14,7 +14,7 @@ ghost use Rattle.sheet.specs.Write.{blanked};
 ghost use Rattle.engine_row.specs.Ready.{Ready};
 ghost use Rattle.engine_queue.specs.Queue.{Queue, RowMoved, StretchMoved, NodeMoved, Visited, Passing, Round, Entered, Settled};
 
-// Every function here but the last two answers whether anything was written.
+// Every function here but `leads_back` and the last two answers whether anything was written.
 
 // Row k of the table. Where it wrote something, whatever it leads to waits.
 fn row(f: &[u8], t: Tables, x: Shape, s: &mut [u8], area: &mut [u8], table: Table, k: u16) -> bool

@@ -1,4 +1,4 @@
--- What each demand of the rules asks a block to be at most, runs bring to that block: so lowering blocks to it keeps a sheet attained.
+-- What each rule asks a block to be at most, runs bring to that block: so lowering blocks to it keeps a sheet attained.
 use mathlib.Core.Path.{_≡_}
 use mathlib.Core.Logic.{inl, inr}
 use mathlib.Core.Bool.{Bool, true}
