@@ -27,8 +27,8 @@ use Rattle.graph_rows.proofs.Stretches.{to-within}
 use Rattle.graph.proofs.Whole.{Limits}
 use Rattle.sheet_layout.specs.Layout.{sheetBytes}
 use Rattle.rule_ask.specs.Gives.{turned}
-use Rattle.engine_row.specs.Ready.{Ready}
-use Rattle.engine_row.proofs.Inside as inside
+use Rattle.rule_ready.specs.Ready.{Ready}
+use Rattle.rule_ready.proofs.Inside as inside
 use Rattle.engine_flags.specs.Flags.{Waits, Woken, Able, Awake, AllWait, LeavesWait, PassedOn, Clear}
 
 pub woken-none : (a : List ℕ) → Woken a a

@@ -24,12 +24,12 @@ use Rattle.rule_ask.specs.Walk.{Ask, of-effect, of-stock, meets, startWalk, ent
 use Rattle.rule_ask.proofs.Asks.{RowAsks, at-entry, Asks, at-start, of-row}
 use Rattle.engine_lower.proofs.Good.{Good}
 use Rattle.engine_lower.proofs.Block.{blank-good}
-use Rattle.engine_row.specs.Ready.{Ready}
+use Rattle.rule_ready.specs.Ready.{Ready}
 use Rattle.engine_row.specs.Lowers.{sheetOf, wroteOf, loweredTo, lowers}
 use Rattle.engine_row.proofs.Brought.{Brought, asks-brought}
 use Rattle.engine_row.proofs.Done.{brought-done}
 use Rattle.engine_row.proofs.Kept.{placed, met-kept, met-own}
-use Rattle.engine_row.proofs.Inside.{still-ready}
+use Rattle.rule_ready.proofs.Inside.{still-ready}
 use Rattle.engine_queue.specs.Queue.{Met, Entered}
 use Rattle.engine_queue.proofs.Step.{own}
 

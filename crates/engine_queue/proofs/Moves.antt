@@ -28,9 +28,9 @@ use Rattle.rule_ask.specs.Walk.{Ask, meets, rowWalk}
 use Rattle.rule_ask.proofs.Asks.{RowAsks, at-entry, along-flow, at-return, at-throw, of-call, Asks, at-start, of-row}
 use Rattle.rule_ask.proofs.Turned.{turned-inside, turned-twice}
 use Rattle.engine_lower.proofs.Good.{height}
-use Rattle.engine_row.specs.Ready.{Ready}
+use Rattle.rule_ready.specs.Ready.{Ready}
 use Rattle.engine_row.specs.Lowers.{sheetOf, lowers}
-use Rattle.engine_row.proofs.Inside.{limit, sorted, method-of, call-node, call-method}
+use Rattle.rule_ready.proofs.Inside.{limit, sorted, method-of, call-node, call-method}
 use Rattle.engine_flags.specs.Flags.{Waits, Woken, Awake, RowWaits, Spread, Able, Clear}
 use Rattle.engine_flags.proofs.Flags.{clear-more}
 use Rattle.engine_queue.proofs.Step.{row-wrote, row-idle, row-flow}

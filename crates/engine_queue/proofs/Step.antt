@@ -35,13 +35,13 @@ use Rattle.rule_ask.proofs.Asks.{LeavingAsks, to-handler, to-exit, CallAsks, af
 use Rattle.rule_ask.proofs.Keeps.{own-keeps}
 use Rattle.rule_ask.proofs.Shows.{row-shows}
 use Rattle.engine_lower.proofs.Good.{Good, Done, height}
-use Rattle.engine_row.specs.Ready.{Ready}
+use Rattle.rule_ready.specs.Ready.{Ready}
 use Rattle.engine_row.specs.Lowers.{State, sheetOf, wroteOf, loweredTo, lowers}
 use Rattle.engine_row.proofs.Brought.{Brought, asks-brought}
 use Rattle.engine_row.proofs.Done.{brought-done, done-next}
 use Rattle.engine_row.proofs.Kept.{Placed, effect-at, stock-at, placed, others-same, met-kept, met-own}
 use Rattle.engine_row.proofs.Still.{Wrote, Still, stay, hit, step}
-use Rattle.engine_row.proofs.Inside.{still-ready}
+use Rattle.rule_ready.proofs.Inside.{still-ready}
 use Rattle.engine_flags.specs.Flags.{Waits, Woken, Awake, AllWait, LeavesWait, EndWaits, CallWaits, RowWaits}
 use Rattle.engine_queue.specs.Queue.{Met, Queue, NodeStays, FlowMoved}
 use Rattle.engine_queue.proofs.Stays.{NodeSame, ExitSame, MethodSame, RowSame, stays}

@@ -20,7 +20,7 @@ use Rattle.rule_ask.specs.Walk.{Ask, of-stock, meets}
 use Rattle.rule_ask.specs.Gives.{turned}
 use Rattle.rule_ask.proofs.Asks.{RowAsks, Asks}
 use Rattle.engine_lower.proofs.Good.{Good, height}
-use Rattle.engine_row.specs.Ready.{Ready}
+use Rattle.rule_ready.specs.Ready.{Ready}
 use Rattle.engine_flags.specs.Flags.{Awake}
 
 module _ (f : List ℕ) (t : Tables) (x : Shape) where

@@ -11,7 +11,7 @@ ghost use Rattle.graph_tables.specs.Rows.{rowsOf};
 ghost use Rattle.graph_tables.specs.Kinds.{drawKind, callKind};
 ghost use Rattle.graph_tables.specs.Fields.{nodeKind, flowTo};
 ghost use Rattle.sheet.specs.Write.{blanked};
-ghost use Rattle.engine_row.specs.Ready.{Ready};
+ghost use Rattle.rule_ready.specs.Ready.{Ready};
 ghost use Rattle.engine_queue.specs.Queue.{Queue, RowMoved, StretchMoved, NodeMoved, Visited, Passing, Round, Entered, Settled};
 
 // Every function here but `leads_back` and the last two answers whether anything was written.

@@ -1,5 +1,4 @@
 pub mod Turn
-pub mod Inside
 pub mod Mixed
 pub mod Brought
 pub mod Done

@@ -14,7 +14,7 @@ ghost use Rattle.graph_tables.specs.declared.Table.the-variants.{Calls};
 ghost use Rattle.graph_tables.specs.Rows.{rowsOf};
 ghost use Rattle.sheet_layout.specs.Layout.{stockSize, effectSize};
 ghost use Rattle.rule_ask.specs.Walk.{of-effect, of-stock, rowsWalk, leavingWalk, startWalk, entryWalk, flowWalk, endWalk, nodeWalk, afterWalk, intoWalk, thrownWalk, rowWalk};
-ghost use Rattle.engine_row.specs.Ready.{Ready};
+ghost use Rattle.rule_ready.specs.Ready.{Ready};
 ghost use Rattle.engine_row.specs.Lowers.{sheetOf, lowers};
 
 // Every function here is told whether anything was written before, and answers whether anything was by now.

@@ -4,7 +4,7 @@ use graph_tables::Tables;
 use sheet_layout::Shape;
 ghost use mathlib.Core.Path.{_≡_};
 ghost use Rattle.rule_ask.specs.Walk.{tableWalk, tablesWalk};
-ghost use Rattle.engine_row.specs.Ready.{Ready};
+ghost use Rattle.rule_ready.specs.Ready.{Ready};
 ghost use Rattle.engine_row.specs.Lowers.{sheetOf, lowers};
 ghost use Rattle.engine_sweep.specs.Sweep.{sweepOf};
 

@@ -23,7 +23,7 @@ use Rattle.rule_test.proofs.Exact.{rules-kept}
 use Rattle.accept_draws.specs.Draws.{verdictOf}
 use Rattle.engine_lower.proofs.Good.{height, Good}
 use Rattle.engine_lower.proofs.Block.{blank-good}
-use Rattle.engine_row.specs.Ready.{Ready}
+use Rattle.rule_ready.specs.Ready.{Ready}
 use Rattle.engine_row.specs.Lowers.{sheetOf, wroteOf}
 use Rattle.engine_sweep.specs.Sweep.{sweepOf}
 use Rattle.engine_sweep.proofs.Sweeps.{sweep-done, settled}

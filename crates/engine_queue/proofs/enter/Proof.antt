@@ -6,7 +6,7 @@ use native.Mathlib.Omega.{arith}
 use denote.Ref.{now}
 use borrow.Author.Needs.{needs}
 use Rattle.sheet.proofs.Back.{blank-length}
-use Rattle.engine_row.proofs.Inside.{still-ready}
+use Rattle.rule_ready.proofs.Inside.{still-ready}
 use Rattle.engine_queue.specs.Queue.{Entered}
 use Rattle.engine_queue.proofs.Moves.{ready-long, entered-all}
 use Rattle.engine_queue.proofs.Enters.{entered-start, entered-more}

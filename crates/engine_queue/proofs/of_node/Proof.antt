@@ -3,7 +3,7 @@ use native.Mathlib.Omega.{arith}
 use borrow.Author.Needs.{needs}
 use Rattle.graph_tables.specs.declared.Table.the-variants.{Calls}
 use Rattle.graph_rows.proofs.Stretches.{to-within}
-use Rattle.engine_row.proofs.Inside.{sorted}
+use Rattle.rule_ready.proofs.Inside.{sorted}
 use Rattle.engine_queue.proofs.Moves.{node-calls, node-end}
 use Rattle.engine_queue.proofs.of_node.Statement.{statement}
 use Rattle.engine_queue.proofs.of_node.Tie as tie

@@ -1,6 +1,6 @@
 use native.Mathlib.Omega.{arith}
 use borrow.Author.Needs.{needs}
-use Rattle.engine_row.proofs.Inside.{limit}
+use Rattle.rule_ready.proofs.Inside.{limit}
 use Rattle.engine_queue.proofs.Moves.{visit-wrote, visit-idle}
 use Rattle.engine_queue.proofs.visit.Statement.{statement}
 use Rattle.engine_queue.proofs.visit.Tie as tie

@@ -4,7 +4,7 @@ use borrow.Author.Needs.{needs}
 use Rattle.graph_tables.specs.declared.Table.the-variants.{Flow}
 use Rattle.words.proofs.Tests.{and-l}
 use Rattle.graph_rows.proofs.Stretches.{to-within}
-use Rattle.engine_row.proofs.Inside.{sorted, limit}
+use Rattle.rule_ready.proofs.Inside.{sorted, limit}
 use Rattle.engine_queue.proofs.Moves.{plain-waits, plain-done}
 use Rattle.engine_queue.proofs.visit_plain.Statement.{statement}
 use Rattle.engine_queue.proofs.visit_plain.Tie as tie

@@ -3,7 +3,7 @@ use borrow.Author.Needs.{needs}
 use Rattle.graph_tables.specs.declared.Table.the-variants.{Flow}
 use Rattle.graph_rows.proofs.Stretches.{to-within}
 use Rattle.rule_ask.specs.Walk.{afterWalk}
-use Rattle.engine_row.proofs.Inside.{sorted}
+use Rattle.rule_ready.proofs.Inside.{sorted}
 use Rattle.engine_row.proofs.after_call.Statement.{statement}
 use Rattle.engine_row.proofs.after_call.Tie as tie
 

@@ -3,7 +3,7 @@ use borrow.Author.Needs.{needs}
 use Rattle.rule_ask.specs.Walk.{thrownWalk}
 use Rattle.engine_row.specs.Lowers.{sheetOf, lowers}
 use Rattle.engine_row.proofs.Turn.{Turning, turning-start, turning-more, turning-end}
-use Rattle.engine_row.proofs.Inside.{still-ready}
+use Rattle.rule_ready.proofs.Inside.{still-ready}
 use Rattle.engine_row.proofs.all_thrown.Statement.{statement}
 use Rattle.engine_row.proofs.all_thrown.Tie as tie
 

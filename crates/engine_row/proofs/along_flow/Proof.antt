@@ -14,7 +14,7 @@ use Rattle.engine_lower.specs.Lower.{effectTo}
 use Rattle.rule_ask.specs.Gives.{goesIn, steppedIn}
 use Rattle.rule_ask.specs.Walk.{of-effect, flowWalk}
 use Rattle.engine_row.specs.Lowers.{lowers}
-use Rattle.engine_row.proofs.Inside.{few-types, node-inside, leads-inside}
+use Rattle.rule_ready.proofs.Inside.{few-types, node-inside, leads-inside}
 use Rattle.engine_row.proofs.along_flow.Statement.{statement}
 use Rattle.engine_row.proofs.along_flow.Tie as tie
 

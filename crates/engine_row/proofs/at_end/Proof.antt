@@ -6,7 +6,7 @@ use borrow.Author.Tests.{eq-eqb, ne-eqb}
 use Rattle.graph_tables.specs.Kinds.{returnKind, throwKind}
 use Rattle.graph_tables.specs.Fields.{nodeKind}
 use Rattle.rule_ask.specs.Walk.{endWalk}
-use Rattle.engine_row.proofs.Inside.{few-types, exit-inside, method-of, exception-of}
+use Rattle.rule_ready.proofs.Inside.{few-types, exit-inside, method-of, exception-of}
 use Rattle.engine_row.proofs.at_end.Statement.{statement}
 use Rattle.engine_row.proofs.at_end.Tie as tie
 

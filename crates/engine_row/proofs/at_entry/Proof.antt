@@ -2,7 +2,7 @@ use mathlib.Core.Path.{_∙_}
 use borrow.Author.Needs.{needs}
 use Rattle.graph_tables.specs.declared.Table.the-variants.{Methods}
 use Rattle.rule_ask.specs.Walk.{entryWalk}
-use Rattle.engine_row.proofs.Inside.{few-types, node-inside, leads-inside}
+use Rattle.rule_ready.proofs.Inside.{few-types, node-inside, leads-inside}
 use Rattle.engine_row.proofs.at_entry.Statement.{statement}
 use Rattle.engine_row.proofs.at_entry.Tie as tie
 

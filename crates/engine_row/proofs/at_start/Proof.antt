@@ -1,7 +1,7 @@
 use mathlib.Core.Path.{_∙_}
 use borrow.Author.Needs.{needs}
 use Rattle.rule_ask.specs.Walk.{startWalk}
-use Rattle.engine_row.proofs.Inside.{limit, few-types, method-inside}
+use Rattle.rule_ready.proofs.Inside.{limit, few-types, method-inside}
 use Rattle.engine_row.proofs.at_start.Statement.{statement}
 use Rattle.engine_row.proofs.at_start.Tie as tie
 

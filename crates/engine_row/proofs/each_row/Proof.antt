@@ -7,7 +7,7 @@ use Rattle.sheet_layout.specs.Layout.{nodeAt}
 use Rattle.rule_ask.specs.Walk.{of-effect, rowsWalk}
 use Rattle.engine_row.specs.Lowers.{lowers}
 use Rattle.engine_row.proofs.Turn.{Turning, turning-start, turning-more, turning-end}
-use Rattle.engine_row.proofs.Inside.{few-types, node-inside, leads-inside, still-ready}
+use Rattle.rule_ready.proofs.Inside.{few-types, node-inside, leads-inside, still-ready}
 use Rattle.engine_row.proofs.each_row.Statement.{statement}
 use Rattle.engine_row.proofs.each_row.Tie as tie
 

@@ -5,7 +5,7 @@ use Rattle.effect.specs.Whole.{applyOf}
 use Rattle.sheet_layout.specs.Layout.{methodAt}
 use Rattle.sheet.specs.Read.{stockAt, marked}
 use Rattle.rule_ask.specs.Walk.{intoWalk}
-use Rattle.engine_row.proofs.Inside.{few-types, method-inside}
+use Rattle.rule_ready.proofs.Inside.{few-types, method-inside}
 use Rattle.engine_row.proofs.into_call.Statement.{statement}
 use Rattle.engine_row.proofs.into_call.Tie as tie
 

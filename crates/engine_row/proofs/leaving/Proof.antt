@@ -5,7 +5,7 @@ use Rattle.graph_tables.specs.declared.Table.the-variants.{Catches}
 use Rattle.graph_rows.specs.Rows.{noRows}
 use Rattle.graph_rows.proofs.Stretches.{to-within}
 use Rattle.rule_ask.specs.Walk.{leavingWalk}
-use Rattle.engine_row.proofs.Inside.{few-types, sorted, method-of, exit-inside}
+use Rattle.rule_ready.proofs.Inside.{few-types, sorted, method-of, exit-inside}
 use Rattle.engine_row.proofs.leaving.Statement.{statement}
 use Rattle.engine_row.proofs.leaving.Tie as tie
 

@@ -2,7 +2,7 @@ use mathlib.Core.Path.{_∙_}
 use borrow.Author.Needs.{needs}
 use Rattle.rule_ask.specs.Gives.{calledIn}
 use Rattle.rule_ask.specs.Walk.{calledWalk}
-use Rattle.engine_row.proofs.Inside.{still-ready, call-node, call-method}
+use Rattle.rule_ready.proofs.Inside.{still-ready, call-node, call-method}
 use Rattle.engine_row.proofs.of_call.Statement.{statement}
 use Rattle.engine_row.proofs.of_call.Tie as tie
 

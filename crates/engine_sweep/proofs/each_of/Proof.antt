@@ -9,7 +9,7 @@ use Rattle.rule_ask.specs.Walk.{rowWalk, tableWalk}
 use Rattle.rule_ask.proofs.Turned.{turned-inside}
 use Rattle.engine_row.specs.Lowers.{sheetOf, lowers}
 use Rattle.engine_row.proofs.Turn.{Turning, turning-start, turning-more, turning-all}
-use Rattle.engine_row.proofs.Inside.{still-ready}
+use Rattle.rule_ready.proofs.Inside.{still-ready}
 use Rattle.engine_sweep.proofs.each_of.Statement.{statement}
 use Rattle.engine_sweep.proofs.each_of.Tie as tie
 

@@ -6,7 +6,7 @@ use Rattle.rule_ask.specs.Gives.{tableAt}
 use Rattle.rule_ask.specs.Walk.{tableWalk, tablesWalk}
 use Rattle.engine_row.specs.Lowers.{sheetOf, lowers}
 use Rattle.engine_row.proofs.Turn.{Turning, turning-start, turning-more, turning-end}
-use Rattle.engine_row.proofs.Inside.{still-ready}
+use Rattle.rule_ready.proofs.Inside.{still-ready}
 use Rattle.engine_sweep.proofs.each_table.Statement.{statement}
 use Rattle.engine_sweep.proofs.each_table.Tie as tie
 

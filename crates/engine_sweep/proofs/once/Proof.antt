@@ -2,7 +2,7 @@ use mathlib.Core.Path.{_∙_}
 use borrow.Author.Needs.{needs}
 use Rattle.rule_ask.specs.Walk.{sheetWalk}
 use Rattle.engine_sweep.specs.Sweep.{sweepOf}
-use Rattle.engine_row.proofs.Inside.{still-ready}
+use Rattle.rule_ready.proofs.Inside.{still-ready}
 use Rattle.engine_sweep.proofs.once.Statement.{statement}
 use Rattle.engine_sweep.proofs.once.Tie as tie
 

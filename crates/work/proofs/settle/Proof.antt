@@ -6,7 +6,7 @@ use borrow.Author.Needs.{needs}
 use Rattle.sheet.proofs.Back.{blank-length}
 use Rattle.engine_lower.proofs.Good.{height}
 use Rattle.engine_row.specs.Lowers.{sheetOf, wroteOf}
-use Rattle.engine_row.proofs.Inside.{still-ready}
+use Rattle.rule_ready.proofs.Inside.{still-ready}
 use Rattle.engine_sweep.proofs.Sweeps.{settled}
 use Rattle.work.specs.Swept.{Swept, unswept, again}
 use Rattle.work.proofs.Sweeping.{falls}

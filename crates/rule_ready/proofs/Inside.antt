@@ -1,4 +1,4 @@
--- What a row writes lies in the sheet.
+-- What a row leads to lies in the sheet.
 use Prim.Native.Nat.{ℕ, _+_, _*_, _≤_, _<_}
 use mathlib.Core.Path.{_≡_, sym, ap, subst, _∙_}
 use mathlib.Core.List.{List}
@@ -20,7 +20,7 @@ use Rattle.graph_rows.specs.Rows.{Sorted, targetOf}
 use Rattle.sheet_layout.specs.declared.Shape.{Shape}
 use Rattle.sheet_layout.specs.Layout.{stockSize, effectSize, methodAt, exitAt, nodeAt, sheetBytes, blockCount, blockSize, blockAt}
 use Rattle.sheet_layout.proofs.Blocks.{inside, block-method, method-size, block-exit, exit-size, block-node, node-size}
-use Rattle.engine_row.specs.Ready.{Ready}
+use Rattle.rule_ready.specs.Ready.{Ready}
 
 module _ {f : List ℕ} {t : Tables} {x : Shape} {s : List ℕ} (r : Ready f t x s) where
   pub limit : Limits t

@@ -1,4 +1,4 @@
--- What an engine starts from: a file that passes, and a sheet of its shape.
+-- What the rules are held to: a file that passes, and a sheet of its shape.
 use Prim.Native.Nat.{ℕ}
 use mathlib.Core.Path.{_≡_}
 use mathlib.Core.List.{List}
