@@ -1,8 +1,9 @@
 // What comes back: one case for each number, with its place, where it names one its type, and where its place is a node that node's line.
+#![tactic(auto)]
 ghost use Rattle.std.specs.Prelude.{◌≡◌, ◌<◌};
 ghost use Rattle.answer.specs.Number.{number_of, type_of, place_of, line_of, packed_of};
 
-#[derive(Drop)]
+#[derive(Clone, Copy)]
 pub enum Answer {
     Pass,
     TooShort,
@@ -27,7 +28,7 @@ pub enum Answer {
 }
 
 // Number, type, place and line.
-#[derive(Drop)]
+#[derive(Clone, Copy)]
 struct Parts(u16, u16, u16, u16);
 
 fn said(a: Answer) -> Parts

@@ -1,6 +1,7 @@
 // Checks the sheet and the graph file in each of the files that its arguments name, and prints the name, and the answer's
 // number, type, place and line. A file is two bytes, the graph file's length, lowest byte first, then the graph file, and then
 // the sheet, which is all that is left.
+#![tactic(auto)]
 use libc::STDOUT_FILENO;
 
 fn print_answer(name: &[u8], a: answer::Answer) {

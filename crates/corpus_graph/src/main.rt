@@ -1,4 +1,5 @@
 // Judges each of the files that its arguments name, and prints the name, and the answer's number, type, place and line.
+#![tactic(auto)]
 use libc::STDOUT_FILENO;
 
 fn print_answer(name: &[u8], a: answer::Answer) {

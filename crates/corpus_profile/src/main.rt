@@ -1,5 +1,6 @@
 // Judges each of the files that its arguments name by both profiles, and prints the name, and number, type, place and line
 // of each answer.
+#![tactic(auto)]
 use libc::STDOUT_FILENO;
 
 fn print_answer(a: answer::Answer) {

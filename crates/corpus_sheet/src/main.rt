@@ -1,5 +1,6 @@
 // Judges the sheets in the files that its arguments name. A file is three bytes, the number of methods, of nodes and of
 // types, and then the sheet. Printed are its first ill-formed block and that block's first word.
+#![tactic(auto)]
 use libc::STDOUT_FILENO;
 use sheet_layout::Shape;
 

@@ -1,5 +1,6 @@
 // Works out each of the graph files that its arguments name. Prints the name, the answer's number, type, place and line, and then each
 // marked block of the sheet: the number of its first word, and its words.
+#![tactic(auto)]
 ghost use Rattle.std.specs.Prelude.{◌≡◌, ◌<◌};
 ghost use Rattle.graph.specs.Judgement.{judged_of};
 

@@ -1,4 +1,5 @@
 // Stocks and effects: six types, each with rights and a count.
+#![tactic(auto)]
 ghost use Rattle.std.specs.Prelude.{◌≡◌, ◌<◌, eqb};
 ghost use Rattle.effect_one.specs.Single.{apply_one};
 ghost use Rattle.effect_one.specs.Formulas.{normal_one, then_one, times_one};
@@ -9,13 +10,13 @@ ghost use Rattle.effect.specs.Meaning.{replaced, one_taken, again_of, Normal, Le
 
 use effect_one::{Held, One};
 
-#[derive(Drop)]
+#[derive(Clone, Copy)]
 pub struct Stock {
     pub rights: [u16; 6],
     pub counts: [u16; 6],
 }
 
-#[derive(Drop)]
+#[derive(Clone, Copy)]
 pub struct Effect {
     pub keepin: [u16; 6],
     pub keepmax: [u16; 6],

@@ -1,17 +1,18 @@
 // Stocks and effects of one type.
+#![tactic(auto)]
 ghost use Rattle.std.specs.Prelude.{◌≡◌};
 ghost use Rattle.effect_one.specs.Single.{drop_only, idle, apply_one};
 ghost use Rattle.effect_one.specs.Formulas.{normal_form, normal_one, drawn, granted, then_one, times_one, both_one, at_most_one, held_at_most, lower_held, covers_held};
 
 // What a stock holds of one type.
-#[derive(Drop)]
+#[derive(Clone, Copy)]
 pub struct Held {
     pub rights: u16,
     pub count: u16,
 }
 
 // What an effect does to one type.
-#[derive(Drop)]
+#[derive(Clone, Copy)]
 pub struct One {
     pub keepin: u16,
     pub keepmax: u16,

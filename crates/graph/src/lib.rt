@@ -1,4 +1,5 @@
 // The judgement of a graph file: answers 1 to 9, 15 and 17.
+#![tactic(auto)]
 ghost use Rattle.std.specs.Prelude.{◌≡◌};
 ghost use Rattle.words.specs.Lowest.{lowest};
 ghost use Rattle.graph_refuse.specs.Bad.{uncalled};
@@ -13,7 +14,7 @@ use graph_tables::{Table, Tables};
 use sheet_layout::Shape;
 
 // What is found of a file by looking at it once: the answer 1 to 9, 15, 17 or 0, its tables, and the shape of its sheet.
-#[derive(Drop)]
+#[derive(Clone, Copy)]
 pub struct Judgement {
     pub answer: Answer,
     pub tables: Tables,

@@ -1,4 +1,5 @@
 // Where the tables of a graph file stand, and the fields of their rows. What lies past the end of the file reads as 0.
+#![tactic(auto)]
 ghost use Rattle.std.specs.Prelude.{◌≡◌, ◌+◌, ◌*◌, ◌<◌};
 ghost use Rattle.words.specs.Bytes.{byte_at, word_at};
 ghost use Rattle.graph_tables.specs.Rows.{rows_of};
@@ -18,7 +19,7 @@ pub const RETURN: u16 = 4;
 pub const THROW: u16 = 5;
 
 // The trailer's six counts, and where each table but the first starts. The tables end where the trailer has to start.
-#[derive(Drop)]
+#[derive(Clone, Copy)]
 pub struct Tables {
     pub methods: u16,
     pub nodes: u16,
@@ -36,7 +37,7 @@ pub struct Tables {
 }
 
 // The seven tables, and the trailer's counts as one more.
-#[derive(Drop)]
+#[derive(Clone, Copy)]
 pub enum Table {
     Trailer,
     Methods,

@@ -1,4 +1,5 @@
 // The listing of a graph file, worked out and written as text into a lent output.
+#![tactic(auto)]
 ghost use Rattle.std.specs.Prelude.{◌≡◌, ◌≤◌, length};
 ghost use Rattle.graph.specs.Judgement.{judged_of};
 ghost use Rattle.sheet_layout.specs.Layout.{Within};
@@ -10,7 +11,7 @@ use graph::Judgement;
 // No listing has more than 46,102 bytes, and a 0 stands behind it.
 pub const ROOM: usize = 46103;
 
-#[derive(Drop)]
+#[derive(Clone, Copy)]
 pub struct Reply {
     pub answer: Answer,
     pub length: usize,

@@ -1,11 +1,12 @@
 // Which nodes the rows of a graph file convict, and the lowest that breaks a profile.
+#![tactic(auto)]
 ghost use Rattle.std.specs.Prelude.{◌≡◌};
 ghost use Rattle.profile_looks.specs.Looks.{is_draw, asks, rows_of, node_of, convicts, convicted, lowest_of, breaking};
 
 use graph_tables::Tables;
 
 // A look at the rows of one table. A row may convict a node.
-#[derive(Drop)]
+#[derive(Clone, Copy)]
 pub enum Look {
     // One-shot: the draw that a flow row leads to, that a method starts with, that a catch row leads to.
     Flow,
@@ -16,7 +17,7 @@ pub enum Look {
     Call,
 }
 
-#[derive(Drop)]
+#[derive(Clone, Copy)]
 pub enum Profile {
     OneShot,
     Session,

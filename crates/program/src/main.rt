@@ -1,5 +1,6 @@
 // Reads one graph file on standard input and prints its listing: the answer, and then for each reached node and type the
 // rights and the count that a run brings at least. What fails is said on standard error.
+#![tactic(auto)]
 ghost use Rattle.std.specs.Prelude.{◌≡◌, ◌≤◌, length, take};
 ghost use Rattle.listing.specs.Lists.{Prints};
 

@@ -1,4 +1,5 @@
 // Reads one graph file on standard input and prints a line for each profile: its name, and whether the graph fits it.
+#![tactic(auto)]
 use answer::Answer;
 use libc::{STDERR_FILENO, STDOUT_FILENO};
 

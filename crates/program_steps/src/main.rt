@@ -1,4 +1,5 @@
 // For 1 to 255 repeats: how many "then" `taken` spent on a draw, and how many `steps_of` says.
+#![tactic(auto)]
 use libc::STDOUT_FILENO;
 
 fn print_number(n: u64, after: &[u8]) {

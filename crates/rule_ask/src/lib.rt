@@ -1,4 +1,5 @@
 // What the rules ask, row by row: what stands where a row comes from. Check and work out do two things with it where the row leads to.
+#![tactic(auto)]
 ghost use Rattle.std.specs.Prelude.{◌≡◌, true, ◌+◌, ◌*◌, ◌<◌, ◌≤◌, length};
 ghost use Rattle.graph_tables.specs.Fields.{node_number};
 ghost use Rattle.sheet_layout.specs.Layout.{effect_size, node_at};
@@ -14,7 +15,7 @@ use sheet_layout::Shape;
 
 // What a call row gives: the call, the method called, whether the call is marked, whether exit 0 of the method is, and the rounds, which
 // nothing asks for where the call is not marked.
-#[derive(Drop)]
+#[derive(Clone, Copy)]
 pub struct Gives {
     pub node: u16,
     pub method: u16,

@@ -1,4 +1,5 @@
 // What the rounds of a repeated call come to. Effects alone: nothing here knows of graphs.
+#![tactic(auto)]
 ghost use Rattle.std.specs.Prelude.{◌≡◌, true, List, ◌<◌, ◌≤◌};
 ghost use Rattle.rule_rounds.specs.Chain.{digit_on, power_chain, steps_of, most_steps, Taking};
 ghost use Rattle.rule_rounds.specs.Climb.{climb_of};
@@ -7,7 +8,7 @@ ghost use Rattle.rule_rounds.specs.Rounds.{rounds_of};
 use effect::Effect;
 
 // What a call's targets must be at most: `earlier` where a round begins, the first or a further one; `whole` where any round has returned.
-#[derive(Drop)]
+#[derive(Clone, Copy)]
 pub struct Rounds {
     pub earlier: Effect,
     pub whole: Effect,
@@ -15,7 +16,7 @@ pub struct Rounds {
 
 // An effect taken so many times: `effect` is the lowest of it taken 1 to `repeats` times, `before` the lowest of it taken 0 to `repeats` - 1
 // times. `steps` is the number of "then" formed for `effect`; for `before` it is one less.
-#[derive(Drop)]
+#[derive(Clone, Copy)]
 pub struct Repeated {
     pub before: Effect,
     pub effect: Effect,
@@ -23,7 +24,7 @@ pub struct Repeated {
 }
 
 // A power on the way, and the number of "then" formed for it.
-#[derive(Drop)]
+#[derive(Clone, Copy)]
 struct Climb {
     power: Effect,
     steps: u32,

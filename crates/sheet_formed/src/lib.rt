@@ -1,4 +1,5 @@
 // Which blocks of a sheet are ill formed.
+#![tactic(auto)]
 ghost use Rattle.std.specs.Prelude.{◌≡◌, ◌+◌, ◌*◌, ◌<◌, ◌≤◌, length};
 ghost use Rattle.sheet_layout.specs.Layout.{effect_size};
 ghost use Rattle.effect.specs.Whole.{normal_of};

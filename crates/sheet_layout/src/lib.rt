@@ -1,9 +1,10 @@
 // Where the blocks of a sheet stand, in words of two bytes. A sheet does not know graphs: its shape is three numbers.
+#![tactic(auto)]
 ghost use Rattle.std.specs.Prelude.{◌≡◌, ◌<◌, length};
 ghost use Rattle.sheet_layout.specs.Layout.{method_at, exit_at, node_at, longest_sheet, sheet_bytes, block_count, is_stock, block_size, block_at};
 
 // Numbers as the graph file has them, so that no place in any sheet passes 64 bits.
-#[derive(Drop)]
+#[derive(Clone, Copy)]
 pub struct Shape {
     pub methods: u16,
     pub nodes: u16,

@@ -1,4 +1,5 @@
 // The operations that the terminal's loader calls from C. A lent slice is a pointer and then a length.
+#![tactic(auto)]
 ghost use Rattle.std.specs.Prelude.{◌≡◌};
 ghost use Rattle.answer.specs.Number.{packed_of};
 ghost use Rattle.accept.specs.Check.{check_of};

@@ -1,0 +1,8 @@
+use native.Mathlib.Omega.{arith}
+use borrow.Author.Rules.{rules}
+use Rattle.words.specs.Four.{four_at}
+use Rattle.words.proofs.inner_four.Goals as goal
+
+pub returns : goal.returns
+unfolding four_at
+returns c = omega arith

@@ -1,0 +1,15 @@
+use Prim.Native.Nat.{◌-◌}
+use mathlib.Core.Path.{refl}
+use lib.ListN.{length, get_or}
+use borrow.Author.Rules.{rules}
+use Rattle.words.proofs.Fill.{Filling, fill_start, fill_turn, fill_end}
+use Rattle.words.proofs.put_words.Goals as goal
+
+pub loop-k-init : goal.loop-k-init
+loop-k-init c = fill_start _ _ _ c.requires
+
+pub loop-k-preserved : goal.loop-k-preserved
+loop-k-preserved c = fill_turn c.loop-k.invariant c.loop-k-test.true refl c.put_word.ensures
+
+pub returns : goal.returns
+returns c = fill_end c.loop-k.invariant c.loop-k-test.false
