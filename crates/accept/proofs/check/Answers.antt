@@ -15,10 +15,9 @@ use Rattle.accept.proofs.check.Goals as goal
 pub of_judged-requires : goal.of_judged-requires
 of_judged-requires c =
     let f = c.args.f.now in
-    let j = c.judged-j.ensures in
-    let p : judge_of f ≡ Pass = zero_pass _ (ap (λ x. number_of x.answer) (sym j.0) ∙ sym c.number.ensures ∙ c.if-number-eq0.true) in
+    let p : judge_of f ≡ Pass = zero_pass _ (ap (λ x. number_of x.answer) (sym c.judged-j.ensures.equals) ∙ sym c.number.ensures ∙ c.if-number-eq0.true) in
     let t = c.judged-j.result.tables in
-    (rises f t (passing.judged f t (ap (λ x. judge_in f x.tables) j.0 ∙ p)), j.1.1)
+    (rises f t (passing.judged f t (ap (λ x. judge_in f x.tables) c.judged-j.ensures.equals ∙ p)), c.judged-j.ensures.within)
 
 pub returns-then-number-eq0 : goal.returns-then-number-eq0
 unfolding check_of
