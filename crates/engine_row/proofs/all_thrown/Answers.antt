@@ -6,5 +6,14 @@ use Rattle.engine_row.proofs.Turn.{Turning, turning_start, turning_more, turning
 use Rattle.rule_ready.proofs.Inside.{still_ready}
 use Rattle.engine_row.proofs.all_thrown.Goals as goal
 
+pub loop-e-init : goal.loop-e-init
+loop-e-init c = turning_start _ _ _ _ _
+
+pub thrown-requires : goal.thrown-requires
+thrown-requires c = (still_ready c.requires.0 c.loop-e.invariant.long, c.requires.1, c.loop-e-test.true)
+
 pub loop-e-preserved : goal.loop-e-preserved
 loop-e-preserved c = turning_more _ _ _ _ _ c.loop-e.invariant c.loop-e-test.true (search rules) c.thrown-told.ensures
+
+pub returns : goal.returns
+returns c = turning_end _ _ _ _ _ c.loop-e.invariant c.loop-e-test.false

@@ -10,6 +10,9 @@ use Rattle.engine_row.proofs.Turn.{Turning, turning_start, turning_more, turning
 use Rattle.rule_ready.proofs.Inside.{few_types, node_inside, leads_inside, still_ready}
 use Rattle.engine_row.proofs.each_row.Goals as goal
 
+pub loop-j-init : goal.loop-j-init
+loop-j-init c rule = turning_start _ _ _ _ _
+
 pub take_effect-told-requires : goal.take_effect-told-requires
 take_effect-told-requires c =
     let r = still_ready {q = c.loop-j.s} c.requires.0 (c.loop-j.invariant 0).long in

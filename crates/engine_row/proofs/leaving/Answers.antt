@@ -8,6 +8,12 @@ use Rattle.rule_ask.specs.Walk.{leaving_walk}
 use Rattle.rule_ready.proofs.Inside.{few_types, sorted, method_of, exit_inside}
 use Rattle.engine_row.proofs.leaving.Goals as goal
 
+pub catches_of-handlers-requires : goal.catches_of-handlers-requires
+catches_of-handlers-requires c = sorted c.requires.0
+
+pub each_row-requires : goal.each_row-requires
+each_row-requires c = (c.requires.0, rw c.catches_of-handlers.ensures (to_within _ _ Catches _))
+
 pub take_effect-requires : goal.take_effect-requires
 take_effect-requires c =
     let p = c.requires in

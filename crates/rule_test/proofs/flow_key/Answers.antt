@@ -7,6 +7,9 @@ use Rattle.sheet.specs.Read.{marked}
 use Rattle.rule_test.specs.Keys.{key_if, lessened}
 use Rattle.rule_test.proofs.flow_key.Goals as goal
 
+pub at_type-requires : goal.at_type-requires
+at_type-requires c = rw c.stepped_fails-k.ensures (fails_lowest _ _).within
+
 pub returns-then-is_marked : goal.returns-then-is_marked
 unfolding lessened
 returns-then-is_marked c =

@@ -24,7 +24,7 @@ loop-j-preserved c =
       omega (arith, c.loop-j.invariant.0, c.loop-j-test.true),
       turn_more (λ k. lessened a.x a.s.now (of_effect a.rule (node_at a.x (target_of a.f.now a.t a.table k)) a.e)) a.z.from a.least
           c.loop-j.invariant.0 c.loop-j.invariant.2
-          c.at_Target.ensures,
+          c.at_target-key.ensures,
     )
 
 pub returns : goal.returns
