@@ -1,44 +1,45 @@
 // Judges each of the files that its arguments name, and prints the name, and the answer's number, type, place and line.
 #![tactic(auto)]
-use libc::STDOUT_FILENO;
 
-fn print_answer(name: &[u8], a: answer::Answer) {
-    io::write_all(STDOUT_FILENO, name);
-    io::write_all(STDOUT_FILENO, b" ");
-    io::print_decimal(STDOUT_FILENO, answer::number(a) as u64);
-    io::write_all(STDOUT_FILENO, b" ");
-    io::print_decimal(STDOUT_FILENO, answer::type_of(a) as u64);
-    io::write_all(STDOUT_FILENO, b" ");
-    io::print_decimal(STDOUT_FILENO, answer::place(a) as u64);
-    io::write_all(STDOUT_FILENO, b" ");
-    io::print_decimal(STDOUT_FILENO, answer::line(a) as u64);
-    io::write_all(STDOUT_FILENO, b"\n");
+use std::io;
+use std::io::Read;
+
+fn print_answer(to: &impl Print, name: &[u8], a: answer::Answer) -> io::Result<()> {
+    to.write_all(name)?;
+    print!(to; " {}", answer::number(a))?;
+    print!(to; " {}", answer::type_of(a))?;
+    print!(to; " {}", answer::place(a))?;
+    print!(to; " {}", answer::line(a))?;
+    println!(to)
 }
 
 // The buffer is longer than the longest file, so that files that are too long are judged as well.
-fn judge_open(name: &[u8], fd: i32) {
+fn judge_open(to: &impl Print, name: &[u8], file: &mut impl Read) -> io::Result<()> {
     let mut buffer = [0u8; 16384];
-    let n = io::read_full(fd, &mut buffer);
+    let n = corpus_files::read(file, &mut buffer).length;
     let j = graph::judged(&buffer[..n]);
     let a = j.answer;
-    print_answer(name, a);
+    print_answer(to, name, a)
 }
 
-fn judge_arg(i: usize) {
-    let mut path = io::buffer();
-    let n = os::arg(i, &mut path);
-    let fd = os::open_read(&path[..n]);
-    if fd < 0 {
-        os::fail(&path[..n]);
-        return;
+// Whether there is an argument i.
+fn judge_arg(rt: &HostRuntime, i: usize) -> io::Result<bool> {
+    let mut path = [0u8; 4096];
+    let Some(n) = corpus_files::argument(rt, i, &mut path) else {
+        return Ok(false);
+    };
+    match corpus_files::open(rt, &path[..n]) {
+        Ok(mut file) => judge_open(rt, &path[..n], &mut file)?,
+        Err(error) => corpus_files::fail(rt, &path[..n], error)?,
     }
-    judge_open(&path[..n], fd);
-    libc::close(fd);
+    Ok(true)
 }
 
-fn main() {
-    let n = os::arg_count();
-    for i in 1..n {
-        judge_arg(i);
+fn main(rt: HostRuntime) -> io::Result<()> {
+    for i in 1..usize::MAX {
+        if !judge_arg(&rt, i)? {
+            break;
+        }
     }
+    Ok(())
 }

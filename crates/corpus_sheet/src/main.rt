@@ -1,61 +1,62 @@
 // Judges the sheets in the files that its arguments name. A file is three bytes, the number of methods, of nodes and of
 // types, and then the sheet. Printed are its first ill-formed block and that block's first word.
 #![tactic(auto)]
-use libc::STDOUT_FILENO;
-use sheet_layout::Shape;
 
-fn print_block(b: u32, w: usize) {
-    io::write_all(STDOUT_FILENO, b"block ");
-    io::print_decimal(STDOUT_FILENO, b as u64);
-    io::write_all(STDOUT_FILENO, b" word ");
-    io::print_decimal(STDOUT_FILENO, w as u64);
-    io::write_all(STDOUT_FILENO, b"\n");
+use sheet_layout::Shape;
+use std::io;
+
+fn print_block(to: &impl Print, b: u32, w: usize) -> io::Result<()> {
+    println!(to; "block {b} word {w}")
 }
 
-fn judge_sheet(s: &[u8], x: Shape) {
+fn judge_sheet(to: &impl Print, s: &[u8], x: Shape) -> io::Result<()> {
     if s.len() != sheet_layout::sheet_bytes(x) {
-        io::write_all(STDOUT_FILENO, b"wrong length\n");
-        return;
+        return println!(to; "wrong length");
     }
     let b = sheet_formed::first_ill(s, x);
     if b < sheet_layout::block_count(x) {
-        print_block(b, sheet_layout::block_at(x, b));
-        return;
+        return print_block(to, b, sheet_layout::block_at(x, b));
     }
-    io::write_all(STDOUT_FILENO, b"well formed\n");
+    println!(to; "well formed")
 }
 
-fn judge_bytes(f: &[u8]) {
+fn judge_bytes(to: &impl Print, f: &[u8]) -> io::Result<()> {
     if f.len() < 3 {
-        return;
+        return Ok(());
     }
     judge_sheet(
+        to,
         &f[3..],
         Shape {
             methods: words::byte(f, 0) as u16,
             nodes: words::byte(f, 1) as u16,
             types: words::byte(f, 2) as u16,
         },
-    );
+    )
 }
 
-fn judge_arg(i: usize) {
-    let mut path = io::buffer();
-    let n = os::arg(i, &mut path);
-    let fd = os::open_read(&path[..n]);
-    if fd < 0 {
-        os::fail(&path[..n]);
-        return;
+// Whether there is an argument i.
+fn judge_arg(rt: &HostRuntime, i: usize) -> io::Result<bool> {
+    let mut path = [0u8; 4096];
+    let Some(n) = corpus_files::argument(rt, i, &mut path) else {
+        return Ok(false);
+    };
+    match corpus_files::open(rt, &path[..n]) {
+        Ok(mut file) => {
+            let mut buf = [0u8; 4096];
+            let k = corpus_files::read(&mut file, &mut buf).length;
+            judge_bytes(rt, &buf[..k])?;
+        }
+        Err(error) => corpus_files::fail(rt, &path[..n], error)?,
     }
-    let mut buf = [0u8; 4096];
-    let k = io::read_full(fd, &mut buf);
-    judge_bytes(&buf[..k]);
-    libc::close(fd);
+    Ok(true)
 }
 
-fn main() {
-    let n = os::arg_count();
-    for i in 1..n {
-        judge_arg(i);
+fn main(rt: HostRuntime) -> io::Result<()> {
+    for i in 1..usize::MAX {
+        if !judge_arg(&rt, i)? {
+            break;
+        }
     }
+    Ok(())
 }

@@ -1,21 +1,21 @@
 // Reads one graph file on standard input and prints its listing: the answer, and then for each reached node and type the
 // rights and the count that a run brings at least. What fails is said on standard error.
 #![tactic(auto)]
+
 ghost use Rattle.std.specs.Prelude.{◌≡◌, ◌≤◌, length, take};
 ghost use Rattle.listing.specs.Lists.{Prints};
 
 use answer::Answer;
-use libc::{STDERR_FILENO, STDOUT_FILENO};
 
-fn complain(text: &[u8]) {
-    io::write_all(STDERR_FILENO, text);
+fn complain(to: &impl Print, text: &[u8]) {
+    let _ = to.write_all(text);
 }
 
 // Only the listing of the input is ever printed.
-fn print(input: &[u8], listing: &[u8]) -> bool
+fn print(to: &impl Print, input: &[u8], listing: &[u8]) -> bool
     requires { Prints input.now listing.now }
 {
-    io::write_all(STDOUT_FILENO, listing)
+    to.write_all(listing).is_ok()
 }
 
 // Its length is all that is said of each of these two, so that no proof has to look at its bytes.
@@ -48,17 +48,23 @@ fn list(input: &[u8], out: &mut [u8]) -> usize
 }
 
 // One byte more than the longest file is read, and refused without a look at the rest.
-fn main() {
+fn main(rt: HostRuntime) {
     let mut file = longest_file();
-    let input = program_input::read(&mut file);
+    let input = program_input::read(&mut rt.stdin(), &mut file);
     if input.failed {
-        complain(b"snellair: standard input could not be read\n");
+        complain(
+            &rt.stderr(),
+            b"snellair: standard input could not be read\n",
+        );
         return;
     }
     let mut out = longest_listing();
     let n = input.length;
     let m = list(&file[..n], &mut out);
-    if !print(&file[..n], &out[..m]) {
-        complain(b"snellair: the listing could not be written\n");
+    if !print(&rt, &file[..n], &out[..m]) {
+        complain(
+            &rt.stderr(),
+            b"snellair: the listing could not be written\n",
+        );
     }
 }

@@ -1,64 +1,61 @@
 // Reads one graph file on standard input and prints a line for each profile: its name, and whether the graph fits it.
 #![tactic(auto)]
-use answer::Answer;
-use libc::{STDERR_FILENO, STDOUT_FILENO};
 
-fn print(text: &[u8]) {
-    io::write_all(STDOUT_FILENO, text);
+use answer::Answer;
+use std::io;
+
+fn print(to: &impl Print, text: &[u8]) -> io::Result<()> {
+    to.write_all(text)
 }
 
-fn print_number(n: u64) {
-    io::print_decimal(STDOUT_FILENO, n);
+fn print_number(to: &impl Print, n: u64) -> io::Result<()> {
+    print!(to; "{n}")
 }
 
 // `fits`, `unfit`, the node and its line, or `refused`, the number and the place.
-fn print_answer(a: Answer) {
+fn print_answer(to: &impl Print, a: Answer) -> io::Result<()> {
     let number = answer::number(a);
     if number == 0 {
-        print(b"fits\n");
-        return;
+        return print(to, b"fits\n");
     }
     if number == 14 {
-        print(b"unfit ");
-        print_number(answer::place(a) as u64);
-        print(b" ");
-        print_number(answer::line(a) as u64);
+        print(to, b"unfit ")?;
+        print_number(to, answer::place(a) as u64)?;
+        print(to, b" ")?;
+        print_number(to, answer::line(a) as u64)?;
     } else {
-        print(b"refused ");
-        print_number(number as u64);
-        print(b" ");
-        print_number(answer::place(a) as u64);
+        print(to, b"refused ")?;
+        print_number(to, number as u64)?;
+        print(to, b" ")?;
+        print_number(to, answer::place(a) as u64)?;
     }
-    print(b"\n");
+    print(to, b"\n")
 }
 
-fn print_profiles(one_shot: Answer, session: Answer) {
-    print(b"one-shot ");
-    print_answer(one_shot);
-    print(b"session ");
-    print_answer(session);
+fn print_profiles(to: &impl Print, one_shot: Answer, session: Answer) -> io::Result<()> {
+    print(to, b"one-shot ")?;
+    print_answer(to, one_shot)?;
+    print(to, b"session ")?;
+    print_answer(to, session)
 }
 
 // A file above the longest is refused without a look at the rest of it.
-fn print_file(f: &[u8]) {
+fn print_file(to: &impl Print, f: &[u8]) -> io::Result<()> {
     if f.len() > 13486 {
-        print_profiles(Answer::BadLength, Answer::BadLength);
-        return;
+        return print_profiles(to, Answer::BadLength, Answer::BadLength);
     }
-    print_profiles(profile::one_shot(f), profile::session(f));
+    print_profiles(to, profile::one_shot(f), profile::session(f))
 }
 
 // One byte more than the longest file is read.
-fn main() {
+fn main(rt: HostRuntime) -> io::Result<()> {
     let mut file = [0u8; 13487];
-    let input = program_input::read(&mut file);
+    let input = program_input::read(&mut rt.stdin(), &mut file);
     if input.failed {
-        io::write_all(
-            STDERR_FILENO,
-            b"snellair: standard input could not be read\n",
-        );
-        return;
+        return rt
+            .stderr()
+            .write_all(b"snellair: standard input could not be read\n");
     }
     let n = input.length;
-    print_file(&file[..n]);
+    print_file(&rt, &file[..n])
 }
