@@ -1,5 +1,4 @@
 use mathlib.Core.Path.{refl, sym, ◌∙◌}
-use borrow.Author.Rules.{rules}
 use Rattle.work.proofs.Sweeping.{passed_fitting, judged_refused}
 use Rattle.work_queued.specs.Meaning.{refused}
 use Rattle.work_queued.proofs.of_judged.Goals as goal

@@ -1,6 +1,4 @@
-use mathlib.Core.Path.{sym, ap, ◌∙◌}
-use lib.ListN.{length}
-use borrow.Author.Rules.{rules}
+use mathlib.Core.Path.{sym, ◌∙◌}
 use Rattle.work.proofs.Sweeping.{make_ready}
 use Rattle.work_queued.proofs.Queued.{refused_sheet, refused_area, answered}
 use Rattle.work_queued.proofs.of_passed.Goals as goal
