@@ -1,5 +1,4 @@
 use mathlib.Core.Path.{sym, ◌∙◌}
-use borrow.Author.Tests.{eqb-true, eqb-false}
 use borrow.Author.Rules.{rules}
 use Rattle.graph_nodes.proofs.Cases.{does_outside, does_grant, does_draw, does_plain, own_plain, own_grant, own_draw}
 use Rattle.graph_nodes.proofs.own_step.Goals as goal
@@ -20,7 +19,7 @@ pub returns-then-draws : goal.returns-then-draws
 returns-then-draws c =
     let a = c.args in
     own_draw c.draw.result
-    (does_draw a.f.now a.t a.n c.if-t-n.false (sym c.node_kind-kind.ensures.0 ∙ eqb-true _ _ c.if-draws.true))
+    (does_draw a.f.now a.t a.n c.if-t-n.false (sym c.node_kind-kind.ensures.0 ∙ c.if-draws.true))
     c.draw.ensures
 
 pub returns : goal.returns
@@ -29,5 +28,5 @@ returns c =
     own_plain c.nothing_done-2.result
     (does_plain a.f.now a.t a.n c.if-t-n.false
     (λ e. c.if-kind-eq-GRANT.false (c.node_kind-kind.ensures.0 ∙ e))
-    (λ e. eqb-false _ _ c.if-draws.false (c.node_kind-kind.ensures.0 ∙ e)))
+    (λ e. c.if-draws.false (c.node_kind-kind.ensures.0 ∙ e)))
     c.nothing_done-2.ensures

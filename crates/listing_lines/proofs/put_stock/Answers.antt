@@ -15,7 +15,7 @@ line n held k = stock_line n k (held_at held k)
 
 pub loop-k-init : goal.loop-k-init
 loop-k-init c =
-    let a = c.args in (search rules, start (line a.n a.t5) a.out.now a.at (omega arith))
+    let a = c.args in (search rules, start (line a.n a.held) a.out.now a.at (omega arith))
 
 pub offset_bounds-held-k : goal.offset_bounds-held-k
 offset_bounds-held-k c = search rules
@@ -33,7 +33,7 @@ pub put_line-end-requires : goal.put_line-end-requires
 put_line-end-requires c =
     let a = c.args in
     let h : c.loop-k.k < a.types = search rules in
-    (search rules, (search rules, omega (arith, room (line a.n a.t5) c.loop-k.k a.types h)))
+    (search rules, (search rules, omega (arith, room (line a.n a.held) c.loop-k.k a.types h)))
 
 pub overflow_add-k : goal.overflow_add-k
 overflow_add-k c = search rules
@@ -44,11 +44,11 @@ loop-k-smaller c = search rules
 pub loop-k-preserved : goal.loop-k-preserved
 loop-k-preserved c =
     let a = c.args in
-    (search rules, turn (line a.n a.t5) c.loop-k.k c.loop-k.invariant.1 c.put_line-end.ensures)
+    (search rules, turn (line a.n a.held) c.loop-k.k c.loop-k.invariant.1 c.put_line-end.ensures)
 
 pub returns : goal.returns
 returns c =
     let l = c.loop-k in
     let a = c.args in
     let e : l.k ≡ a.types = search rules in
-    retext l.invariant.1 (ap (stock_lines a.n a.t5) e)
+    retext l.invariant.1 (ap (stock_lines a.n a.held) e)

@@ -6,6 +6,7 @@ use Rattle.effect_one.specs.Formulas.{at_most_one}
 use Rattle.effect.specs.Six.{one_at}
 use Rattle.sheet.specs.Read.{effect_at}
 use Rattle.sheet_compare.proofs.Compare.{UnderBelow, under_more, under_found, under_none}
+use mathlib.Core.Bool.{not}
 use Rattle.sheet_compare.proofs.inner_fails.Goals as goal
 
 pub loop-k-init : goal.loop-k-init
@@ -16,7 +17,7 @@ returns-then-not-type_under c =
     let a = c.args in
     under_found (effect_at a.s.now a.t a.v) a.e c.loop-k.k c.loop-k.invariant.1
     (c.type_under.ensures ∙ ap (at_most_one (one_at (effect_at a.s.now a.t a.v) c.loop-k.k)) c.one_at.ensures)
-    (search rules) c.if-not-type_under.true
+    (search rules) (ap not c.if-not-type_under.true)
 
 pub loop-k-preserved : goal.loop-k-preserved
 loop-k-preserved c =
@@ -24,7 +25,7 @@ loop-k-preserved c =
       search rules,
       under_more (effect_at a.s.now a.t a.v) a.e c.loop-k.k c.loop-k.invariant.1
           (c.type_under.ensures ∙ ap (at_most_one (one_at (effect_at a.s.now a.t a.v) c.loop-k.k)) c.one_at.ensures)
-          c.if-not-type_under.false,
+          (ap not c.if-not-type_under.false),
     )
 
 pub returns : goal.returns

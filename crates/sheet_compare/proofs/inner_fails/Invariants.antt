@@ -6,6 +6,7 @@ use Rattle.effect_one.specs.Formulas.{at_most_one}
 use Rattle.effect.specs.Six.{one_at}
 use Rattle.sheet.specs.Read.{effect_at}
 use Rattle.sheet_compare.proofs.Compare.{UnderBelow, under_more, under_found, under_none}
+use mathlib.Core.Bool.{not}
 use Rattle.sheet_compare.proofs.inner_fails.Given as goal
 
 abbrev pub invariant-loop-k : goal.invariant-loop-k

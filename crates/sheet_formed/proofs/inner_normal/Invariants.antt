@@ -7,6 +7,7 @@ use borrow.Author.Rules.{rules}
 use Rattle.effect_one.specs.Formulas.{normal_one}
 use Rattle.sheet.specs.Inner.{one_words}
 use Rattle.sheet_formed.proofs.Inner.{normal_found, normal_none}
+use mathlib.Core.Bool.{not}
 use Rattle.sheet_formed.proofs.inner_normal.Given as goal
 
 abbrev pub invariant-loop-k : goal.invariant-loop-k

@@ -10,7 +10,7 @@ use Rattle.sheet_lower.proofs.lower_effect.Given as goal
 
 abbrev pub invariant-loop-k : goal.invariant-loop-k
 invariant-loop-k l = (l.k ≤ l.t) × (length l.s ≡ length l.initial.s) × (l.old ≡ marked l.initial.s l.w)
-    × Laid (lowered_effect l.initial.s l.t l.w (record { l.keepin = l.keepin; l.keepmax = l.keepmax; l.cap = l.cap; l.drop = l.drop })) l.initial.s l.w l.k l.s
+    × Laid (lowered_effect l.initial.s l.t l.w (record { keepin = l.keepin; keepmax = l.keepmax; cap = l.cap; drop = l.drop })) l.initial.s l.w l.k l.s
 
 abbrev pub decreases-loop-k : goal.decreases-loop-k
 decreases-loop-k l = l.t - l.k
