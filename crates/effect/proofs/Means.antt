@@ -2,7 +2,7 @@
 use Prim.Native.Nat.{ℕ, zero, suc, ◌<◌, min}
 use mathlib.Core.Path.{◌≡◌, sym, ◌∙◌}
 use mathlib.Core.Bool.{Bool, true}
-use mathlib.Core.List.{List, [], ◌∷◌, map}
+use mathlib.Core.List.{List, [], ◌∷◌}
 use native.Mathlib.Omega.{arith}
 use native.Mathlib.Nat.{le_of_eq}
 use lib.ListN.{get_or}
@@ -63,7 +63,7 @@ pub tells_covers : {r : Bool} (s : Stock) (t p : ℕ) → r ≡ covers_of s t p 
 tells_covers s t p = tells (covers_sound s t p) (covers_complete s t p)
 
 -- rights are words: a struct of sixteen-bit numbers tells it
-word : (k : ℕ) (xs : List ℕ) (us : List Val) → shadow (each ℕ (UInt w16).own_val (map (λ v. v) xs) us) → get_or xs k 0 < 65536
+word : (k : ℕ) (xs : List ℕ) (us : List Val) → shadow (each ℕ (UInt w16).own_val xs us) → get_or xs k 0 < 65536
 word k [] us s = omega arith
 word k (x ∷ xs) [] s = absurd s
 word zero (x ∷ xs) (u ∷ us) s = omega (arith, s.0.1)

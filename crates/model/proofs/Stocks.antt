@@ -30,6 +30,8 @@ data Needs : Does → Coordinate → Type 0 where
   of_draw : {t p : ℕ} {i : Coordinate} → Asked t p i → Needs (draw t p) i
 
 enough : (d : Does) (s : Stock) → Covered d s → (i : Coordinate) → Needs d i → 1 ≤ at i s
+enough plain s c i h = elim h [ ]
+enough (grant t p m) s c i h = elim h [ ]
 enough (draw t p) s c i (of_draw a) = covers_asked s t p c i a
 
 -- A draw is of one of the six types, and of rights that are a word.

@@ -10,4 +10,4 @@ overflow_mul-result c =
 
 pub returns : goal.returns
 unfolding sheet_bytes sheet_words node_at method_at
-returns c = rw c.Node-at.ensures
+returns c = rw c.node_at.ensures

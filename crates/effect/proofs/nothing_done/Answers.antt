@@ -1,0 +1,15 @@
+use borrow.Author.Rules.{rules}
+use mathlib.Core.Path.{◌∙◌, ap}
+use Rattle.effect_one.specs.declared.One.{One}
+use Rattle.effect.specs.Six.{effect_of}
+use Rattle.effect.specs.Whole.{nothing_done}
+use Rattle.effect.proofs.Laws.{nothing_normal}
+use Rattle.effect.proofs.Coordinate.{apply_nothing}
+use Rattle.effect.proofs.Means.{leaves}
+use Rattle.effect.proofs.nothing_done.Goals as goal
+
+pub returns : goal.returns
+unfolding nothing_done
+returns c =
+    let all = leaves _ nothing_normal apply_nothing (c.effect_of.ensures ∙ ap (λ (x : One). effect_of (λ k. x)) c.nothing_done-x.ensures) in
+    record { equals = all.0; means = all.1 }

@@ -1,0 +1,12 @@
+use Prim.Native.Nat.{ℕ, ◌+◌, ◌-◌, ◌≤◌}
+use native.Mathlib.Omega.{arith}
+use borrow.Author.Rules.{rules}
+use Rattle.engine_flags.specs.Flags.{Clear}
+use Rattle.engine_flags.proofs.Flags.{clear_more}
+use Rattle.engine_flags.proofs.past_eights.Given as goal
+
+abbrev pub invariant-loop-j : goal.invariant-loop-j
+invariant-loop-j l = (l.k ≤ l.j) × (l.j ≤ l.n) × Clear l.area l.backwards l.n l.k l.j
+
+abbrev pub decreases-loop-j : goal.decreases-loop-j
+decreases-loop-j l = l.n - l.j

@@ -1,0 +1,12 @@
+use Prim.Native.Nat.{◌-◌, ◌≤◌}
+use native.Mathlib.Omega.{arith}
+use borrow.Author.Rules.{rules}
+use Rattle.engine_queue.specs.Queue.{StretchMoved}
+use Rattle.engine_queue.proofs.Moves.{stretch_none, stretch_more, ready_long, wide_long}
+use Rattle.engine_queue.proofs.each.Given as goal
+
+abbrev pub invariant-loop-j : goal.invariant-loop-j
+invariant-loop-j l = (l.initial.j ≤ l.j) × (l.j - l.initial.j ≤ l.end - l.initial.j) × StretchMoved l.f l.t l.x l.table l.initial.j l.j l.initial.s l.initial.area l.s l.area l.wrote
+
+abbrev pub decreases-loop-j : goal.decreases-loop-j
+decreases-loop-j l = l.end - l.j

@@ -1,0 +1,23 @@
+use mathlib.Core.Path.{◌≡◌, sym, ◌∙◌}
+use native.Mathlib.Omega.{arith}
+use borrow.Author.Rules.{rules}
+use Rattle.graph_tables.specs.declared.Table.TheVariants.{Calls}
+use Rattle.graph_rows.proofs.Stretches.{to_within}
+use Rattle.rule_ready.proofs.Inside.{sorted}
+use Rattle.engine_queue.proofs.Moves.{node_calls, node_end}
+use Rattle.engine_queue.proofs.of_node.Goals as goal
+
+pub calls_of-requires : goal.calls_of-requires
+calls_of-requires c = sorted c.requires.0.ready
+
+pub each-requires : goal.each-requires
+each-requires c = (c.requires.0, rw c.calls_of.ensures (to_within _ _ Calls _))
+
+pub returns-then-node_kind-eq-CALL : goal.returns-then-node_kind-eq-CALL
+returns-then-node_kind-eq-CALL c = node_calls c.requires.0 c.args.n c.each.result (sym c.node_kind.ensures.0 ∙ c.if-node_kind-eq-CALL.true) (rw c.calls_of.ensures at c.each.ensures)
+
+pub row-requires : goal.row-requires
+row-requires c = (c.requires.0, c.requires.1)
+
+pub returns : goal.returns
+returns c = node_end c.requires.0 c.args.n c.row.result (omega (arith, c.if-node_kind-eq-CALL.false, c.requires.2, c.node_kind.ensures.0)) c.row.ensures

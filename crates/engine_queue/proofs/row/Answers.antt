@@ -1,0 +1,17 @@
+use borrow.Author.Rules.{rules}
+use Rattle.engine_queue.proofs.Moves.{able, row_true, row_false}
+use Rattle.engine_queue.proofs.row.Goals as goal
+
+pub wake_row-requires : goal.wake_row-requires
+wake_row-requires c = (able c.requires.0, c.requires.1)
+
+pub returns-then-row : goal.returns-then-row
+returns-then-row c =
+    let p = c.requires in
+    let woke = c.wake_row.ensures in
+    row_true p.0 c.args.table c.args.k p.1 c.row.result c.if-row.true c.row.ensures woke.0 woke.1
+
+pub returns : goal.returns
+returns c =
+    let p = c.requires in
+    row_false p.0 c.args.table c.args.k p.1 c.row.result c.if-row.false c.row.ensures

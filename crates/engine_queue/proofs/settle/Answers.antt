@@ -1,0 +1,15 @@
+use mathlib.Core.Path.{sym, ap, ◌∙◌}
+use lib.ListN.{replicate}
+use borrow.Author.Rules.{rules}
+use Rattle.engine_lower.proofs.Good.{height}
+use Rattle.engine_queue.specs.Queue.{Queue}
+use Rattle.engine_queue.proofs.Moves.{all_wait, quiet_settled, ready_long}
+use Rattle.engine_queue.proofs.settle.Goals as goal
+
+pub loop-t-init : goal.loop-t-init
+loop-t-init c = all_wait c.enter.ensures c.wake_nodes.ensures.0 c.wake_nodes.ensures.1
+
+pub returns : goal.returns
+returns c =
+    let done = c.round.ensures in
+    (quiet_settled done.queue (done.quiet c.loop-t-test.false), c.blank.ensures ∙ ap (λ n. replicate n 0) (done.queue.wide ∙ sym c.requires.1))

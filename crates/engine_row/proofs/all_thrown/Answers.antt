@@ -1,0 +1,16 @@
+use Prim.Native.Nat.{◌-◌}
+use borrow.Author.Rules.{rules}
+use Rattle.rule_ask.specs.Walk.{thrown_walk}
+use Rattle.engine_row.specs.Lowers.{sheet_of, lowers}
+use Rattle.engine_row.proofs.Turn.{Turning, turning_start, turning_more, turning_end}
+use Rattle.rule_ready.proofs.Inside.{still_ready}
+use Rattle.engine_row.proofs.all_thrown.Goals as goal
+
+pub loop-e-init : goal.loop-e-init
+loop-e-init c = turning_start _ _ _ _ _
+
+pub loop-e-preserved : goal.loop-e-preserved
+loop-e-preserved c = turning_more _ _ _ _ _ c.loop-e.invariant c.loop-e-test.true (search rules) c.thrown-told.ensures
+
+pub returns : goal.returns
+returns c = turning_end _ _ _ _ _ c.loop-e.invariant c.loop-e-test.false

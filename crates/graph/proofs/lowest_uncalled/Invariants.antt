@@ -1,0 +1,13 @@
+use Prim.Native.Nat.{◌≤◌, ◌-◌}
+use mathlib.Core.Path.{refl, sym, ◌∙◌}
+use borrow.Author.Count.{below_more, below_none}
+use borrow.Author.Rules.{rules}
+use Rattle.words.proofs.Lowest.{NoneBelow, scan_found, scan_none}
+use Rattle.graph_refuse.specs.Bad.{uncalled}
+use Rattle.graph.proofs.lowest_uncalled.Given as goal
+
+abbrev pub invariant-loop-n : goal.invariant-loop-n
+invariant-loop-n l = (l.n ≤ l.t.nodes) × NoneBelow (uncalled l.f l.t) l.n
+
+abbrev pub decreases-loop-n : goal.decreases-loop-n
+decreases-loop-n l = l.t.nodes - l.n

@@ -1,0 +1,13 @@
+use Rattle.graph_refuse.specs.Bad.{call_bad}
+use borrow.Author.Rules.{rules}
+use Rattle.graph_edges.proofs.call_bad.Goals as goal
+
+pub returns : goal.returns
+unfolding call_bad
+returns c =
+    simp (
+      c.call_node-node.ensures,
+      c.call_method-method.ensures,
+      c.node_kind-kind.ensures.0,
+      c.call_not_above-falls.ensures,
+    )

@@ -1,0 +1,15 @@
+use Rattle.graph_refuse.specs.Bad.{flow_bad}
+use borrow.Author.Rules.{rules}
+use Rattle.graph_edges.proofs.flow_bad.Goals as goal
+
+pub returns : goal.returns
+unfolding flow_bad
+returns c =
+    simp (
+      c.flow_from-from.ensures,
+      c.flow_to-to.ensures,
+      c.node_kind-kind.ensures.0,
+      c.node_method-a.ensures.0,
+      c.node_method-b.ensures.0,
+      c.flow_not_above-falls.ensures,
+    )

@@ -1,0 +1,21 @@
+use borrow.Author.Tests.{eq-eqb, ne_eqb}
+use Rattle.graph_refuse.specs.Bad.{above, not_above, flow_row}
+use borrow.Author.Rules.{rules}
+use Rattle.graph_edges.proofs.flow_not_above.Goals as goal
+
+pub returns-then-k-eq0 : goal.returns-then-k-eq0
+unfolding not_above
+returns-then-k-eq0 c = simp (eq-eqb _ _ c.if-k-eq0.true)
+
+pub returns : goal.returns
+unfolding above not_above flow_row
+returns c =
+    simp (
+      ne_eqb _ _ c.if-k-eq0.false,
+      c.flow_to.ensures,
+      c.flow_to-2.ensures,
+      c.above-to.ensures,
+      c.flow_from.ensures,
+      c.flow_from-2.ensures,
+      c.above.ensures,
+    )

@@ -1,0 +1,7 @@
+use Rattle.graph_refuse.specs.Bad.{count_bad}
+use borrow.Author.Rules.{rules}
+use Rattle.graph_refuse.proofs.count_bad.Goals as goal
+
+pub returns : goal.returns
+unfolding count_bad
+returns c = simp (c.trailer_word-n.ensures, c.fewest.ensures, c.most.ensures)

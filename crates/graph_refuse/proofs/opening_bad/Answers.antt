@@ -1,0 +1,7 @@
+use Rattle.graph_refuse.specs.Bad.{opening_bad}
+use borrow.Author.Rules.{rules}
+use Rattle.graph_refuse.proofs.opening_bad.Goals as goal
+
+pub returns : goal.returns
+unfolding opening_bad
+returns c = cc

@@ -1,0 +1,26 @@
+use borrow.Author.Rules.{rules}
+use Rattle.graph_scan.proofs.row_bad.Goals as goal
+
+pub returns-in-Trailer : goal.returns-in-Trailer
+returns-in-Trailer c = rw c.in-Trailer.is c.count_bad.ensures
+
+pub returns-in-Methods : goal.returns-in-Methods
+returns-in-Methods c = rw c.in-Methods.is c.entry_bad.ensures
+
+pub returns-in-Nodes : goal.returns-in-Nodes
+returns-in-Nodes c = rw c.in-Nodes.is c.node_bad.ensures
+
+pub returns-in-Flow : goal.returns-in-Flow
+returns-in-Flow c = rw c.in-Flow.is c.flow_bad.ensures
+
+pub returns-in-Calls : goal.returns-in-Calls
+returns-in-Calls c = rw c.in-Calls.is c.call_bad.ensures
+
+pub returns-in-Parents : goal.returns-in-Parents
+returns-in-Parents c = rw c.in-Parents.is c.parent_bad.ensures
+
+pub returns-in-Catches : goal.returns-in-Catches
+returns-in-Catches c = rw c.in-Catches.is c.catch_bad.ensures
+
+pub returns-in-Opening : goal.returns-in-Opening
+returns-in-Opening c = rw c.in-Opening.is c.opening_bad.ensures

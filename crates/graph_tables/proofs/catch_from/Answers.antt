@@ -1,0 +1,8 @@
+use native.Mathlib.Nat.{add-zero}
+use Rattle.graph_tables.specs.Fields.{catch_from}
+use borrow.Author.Rules.{rules}
+use Rattle.graph_tables.proofs.catch_from.Goals as goal
+
+pub returns : goal.returns
+unfolding catch_from
+returns c = rw add-zero at c.word_of.ensures

@@ -1,0 +1,8 @@
+use native.Mathlib.Nat.{add-zero}
+use Rattle.graph_tables.specs.Fields.{flow_from}
+use borrow.Author.Rules.{rules}
+use Rattle.graph_tables.proofs.flow_from.Goals as goal
+
+pub returns : goal.returns
+unfolding flow_from
+returns c = rw add-zero at c.word_of.ensures

@@ -1,0 +1,15 @@
+use borrow.Author.Rules.{rules}
+use Rattle.profile_looks.specs.Looks.{asks}
+use Rattle.profile_looks.proofs.asks.Goals as goal
+
+pub returns : goal.returns
+unfolding asks
+returns c =
+    simp (
+      c.node_kind-kind.ensures.0,
+      c.node_number-granted.ensures.0,
+      c.node_number-drawn.ensures.0,
+      c.node_rights-given.ensures,
+      c.node_rights-needed.ensures,
+      c.node_count-count.ensures.0,
+    )

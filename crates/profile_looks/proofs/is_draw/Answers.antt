@@ -1,0 +1,7 @@
+use borrow.Author.Rules.{rules}
+use Rattle.profile_looks.specs.Looks.{is_draw}
+use Rattle.profile_looks.proofs.is_draw.Goals as goal
+
+pub returns : goal.returns
+unfolding is_draw
+returns c = simp c.node_kind.ensures.0

@@ -1,0 +1,15 @@
+use Prim.Native.Nat.{◌≤◌, ◌-◌}
+use mathlib.Core.Path.{◌≡◌, refl, ap, ◌∙◌}
+use native.Mathlib.Omega.{arith}
+use borrow.Author.Rules.{rules}
+use Rattle.words.specs.Turn.{in_turn}
+use Rattle.words.proofs.Turn.{turn_next}
+use Rattle.rule_ask.specs.Walk.{thrown_walk}
+use Rattle.rule_test.specs.Keys.{lessened}
+use Rattle.rule_test.proofs.all_thrown.Given as goal
+
+abbrev pub invariant-loop-e : goal.invariant-loop-e
+invariant-loop-e l = (l.e ≤ 8) × (l.key ≡ in_turn (thrown_walk l.f l.t l.x (λ v. l.s) (lessened l.x l.s) l.c) 0 l.e l.least)
+
+abbrev pub decreases-loop-e : goal.decreases-loop-e
+decreases-loop-e l = 8 - l.e

@@ -1,0 +1,12 @@
+use mathlib.Core.Path.{ap, ◌∙◌}
+use mathlib.Core.Bool.{false}
+use borrow.Author.Rules.{rules}
+use Rattle.rule_ask.specs.Walk.{tables_walk, sheet_walk}
+use Rattle.rule_test.specs.Keys.{lessened, least_key}
+use Rattle.rule_test.proofs.least_key.Goals as goal
+
+pub returns : goal.returns
+unfolding least_key sheet_walk
+returns c =
+    let a = c.args in
+    c.of_tables.ensures ∙ ap (tables_walk a.f.now a.t a.x (λ v. a.s.now) (lessened a.x a.s.now) false) c.at_start.ensures

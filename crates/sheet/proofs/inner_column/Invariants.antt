@@ -1,0 +1,16 @@
+use Prim.Native.Nat.{◌+◌, ◌-◌, ◌*◌, ◌≤◌, ◌<◌}
+use mathlib.Core.Path.{◌≡◌, refl}
+use lib.ListN.{length}
+use native.Mathlib.Omega.{arith}
+use Rattle.effect.specs.Six.{six}
+use Rattle.sheet.specs.Read.{sheet_word}
+use Rattle.effect.proofs.Filled.{up_to, one_more, all_read}
+use Rattle.sheet.proofs.Fill.{turns}
+use borrow.Author.Rules.{rules}
+use Rattle.sheet.proofs.inner_column.Given as goal
+
+abbrev pub invariant-loop-k : goal.invariant-loop-k
+invariant-loop-k l = (l.k ≤ l.t) × (l.c ≡ six (up_to (λ i. sheet_word l.s (l.w + (l.j + l.n * i))) l.none l.k))
+
+abbrev pub decreases-loop-k : goal.decreases-loop-k
+decreases-loop-k l = l.t - l.k

@@ -1,0 +1,16 @@
+use Prim.Native.Nat.{◌+◌, ◌-◌, ◌*◌, ◌≤◌, ◌<◌}
+use mathlib.Core.Path.{◌≡◌, refl}
+use lib.ListN.{length}
+use native.Mathlib.Omega.{arith}
+use borrow.Author.Rules.{rules}
+use Rattle.sheet.specs.Read.{marked}
+use Rattle.sheet_lower.specs.Lowered.{lowered_effect}
+use Rattle.sheet_lower.proofs.Turn.{Laid, none_laid, type_more, type_left, mark_last, lowered_at}
+use Rattle.sheet_lower.proofs.lower_effect.Given as goal
+
+abbrev pub invariant-loop-k : goal.invariant-loop-k
+invariant-loop-k l = (l.k ≤ l.t) × (length l.s ≡ length l.initial.s) × (l.old ≡ marked l.initial.s l.w)
+    × Laid (lowered_effect l.initial.s l.t l.w (record { keepin = l.keepin; keepmax = l.keepmax; cap = l.cap; drop = l.drop })) l.initial.s l.w l.k l.s
+
+abbrev pub decreases-loop-k : goal.decreases-loop-k
+decreases-loop-k l = l.t - l.k

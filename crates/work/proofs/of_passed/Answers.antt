@@ -1,0 +1,15 @@
+use mathlib.Core.Path.{sym, ◌∙◌}
+use borrow.Author.Rules.{rules}
+use Rattle.work.proofs.Sweeping.{make_ready, refused_length, answers}
+use Rattle.work.proofs.of_passed.Goals as goal
+
+pub returns-then-s-sheet_bytes : goal.returns-then-s-sheet_bytes
+returns-then-s-sheet_bytes c = refused_length c.requires (λ e. c.if-s-sheet_bytes.true (e ∙ sym c.sheet_bytes.ensures))
+
+pub settle-requires : goal.settle-requires
+settle-requires c = make_ready c.requires (c.if-s-sheet_bytes.false ∙ c.sheet_bytes.ensures)
+
+pub returns : goal.returns
+returns c =
+    let ready = make_ready c.requires (c.if-s-sheet_bytes.false ∙ c.sheet_bytes.ensures) in
+    rw c.verdict.ensures (answers ready c.settle.ensures)
