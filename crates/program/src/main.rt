@@ -32,6 +32,7 @@ fn longest_listing() -> [u8; 46103]
 }
 
 // The listing of the input at the start of `out`. The sheet is the part of the longest that the file asks for.
+#[tactic(auto, using(crate::proofs::Printed::long_printed))]
 fn list(input: &[u8], out: &mut [u8]) -> usize
     requires { 46103 ≤ length out.old }
     ensures { (result ≤ length out.new) × Prints input.now (take result out.new) }
