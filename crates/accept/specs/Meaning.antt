@@ -24,7 +24,7 @@ pub data Checks (f s : List ℕ) (a : Answer) : Type 0 where
   refused : (judge_of f ≡ Pass → ⊥) → SaysAs a (judge_of f) → Checks f s a
   -- 10: the sheet's length is wrong
   wrong_length : judge_of f ≡ Pass → (length s ≡ sheet_bytes (shape f) → ⊥) → Says a 10 0 0 0 → Checks f s a
-  -- 11: the lowest ill_formed block, by its first word
+  -- 11: the lowest ill-formed block, by its first word
   ill_formed : judge_of f ≡ Pass → length s ≡ sheet_bytes (shape f) → (b : ℕ) → b < block_count (shape f) → ill_block s (shape f) b ≡ true
       → ((c : ℕ) → c < b → ill_block s (shape f) c ≡ false) → Says a 11 0 (block_at (shape f) b) 0 → Checks f s a
   -- 12: the lowest rule that is broken, and the lowest type that fails in any place where it is; a block without its mark fails in no type, so

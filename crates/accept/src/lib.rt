@@ -1,5 +1,6 @@
 // Check: a graph file and a sheet from anybody in, the answer out. Both are only read. Of many sheets the answers go into a lent row.
 #![tactic(auto)]
+
 ghost use Rattle.std.specs.Prelude.{◌≡◌, length};
 ghost use Rattle.answer.specs.declared.Answer.TheVariants.{Pass};
 ghost use Rattle.graph_tables.specs.Trailer.{tables_of};

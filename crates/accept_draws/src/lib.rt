@@ -1,5 +1,6 @@
 // The draws that a sheet calls reached, each against the stock that it says there.
 #![tactic(auto)]
+
 ghost use Rattle.std.specs.Prelude.{◌≡◌};
 ghost use Rattle.words.specs.Lowest.{lowest};
 ghost use Rattle.accept_draws.specs.Draws.{uncovered_at, verdict_of};

@@ -1,5 +1,6 @@
 // The lent row of the check of many sheets: of how many sheets it tells, and what is put into it for each.
 #![tactic(auto)]
+
 ghost use Rattle.std.specs.Prelude.{◌≡◌, ℕ, ◌+◌, ◌*◌, ◌≤◌, ◌<◌, length, set};
 ghost use Rattle.answer.specs.Number.{number_of, place_of};
 ghost use Rattle.sheet_layout.specs.Layout.{Within, sheet_bytes};

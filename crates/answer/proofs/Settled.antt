@@ -5,7 +5,7 @@ use mathlib.Core.Bool.{cond}
 use lib.Dec.{eqb}
 use Rattle.answer.specs.declared.Answer.{Answer}
 use Rattle.answer.specs.declared.Answer.TheVariants.{Pass, TooShort, BadCount, BadLength, BadEntry, BadNode, BadFlow, BadCall, BadCatch, BadOpening, BadSheet, BadBlock, Broken, Overdrawn, Unfit, BadParent, NoCallRow, BadArea, BadRow, OutputShort}
-use Rattle.answer.specs.Number.{number_of, type_of, place_of, line_of, Says, SaysAs}
+use Rattle.answer.specs.Number.{number_of, type_of, place_of, line_of, SaysAs}
 
 -- the answer that has the number, the type, the place and the line
 abbrev pub answer_of : ℕ → ℕ → ℕ → ℕ → Answer

@@ -1,5 +1,6 @@
 // What comes back: one case for each number, with its place, where it names one its type, and where its place is a node that node's line.
 #![tactic(auto)]
+
 ghost use Rattle.std.specs.Prelude.{◌≡◌, ◌<◌};
 ghost use Rattle.answer.specs.Number.{number_of, type_of, place_of, line_of, packed_of};
 

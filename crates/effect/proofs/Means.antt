@@ -18,7 +18,7 @@ use Rattle.effect.specs.declared.Effect.{Effect}
 use Rattle.effect.specs.Six.{held_at, one_at}
 use Rattle.effect.specs.Whole.{normal_of, apply_of, at_most_of, stock_at_most_of, fails_of, stock_fails_of, lower_of, covers_of}
 use Rattle.effect.specs.Coordinate.{Coordinate, at}
-use Rattle.effect.specs.Meaning.{Below, AtMost, BelowAt, AtMostAt, LowestFailing, Covers, NormalAt, Normal, Leaves, Exactly}
+use Rattle.effect.specs.Meaning.{Below, AtMost, BelowAt, AtMostAt, LowestFailing, Covers, Normal, Leaves, Exactly}
 use Rattle.effect.specs.contracts.Effect as effect
 use Rattle.effect.specs.contracts.Stock as stock
 use Rattle.effect.proofs.Six.{all_i, SixOnes}

@@ -1,5 +1,5 @@
 -- What an effect leaves of a stock, and nothing done at some types.
-use Rattle.std.specs.Prelude.{ℕ, Bool, true, false}
+use Rattle.std.specs.Prelude.{Bool, true, false}
 use Rattle.effect_one.specs.declared.One.{One}
 use Rattle.effect_one.specs.Single.{idle, apply_one}
 use Rattle.effect.specs.declared.Stock.{Stock}

@@ -1,5 +1,5 @@
 -- The six types: what a stock and an effect are at each, and the stock and the effect that are given at each.
-use Rattle.std.specs.Prelude.{ℕ, zero, suc, Bool, true, false, ◌&&◌, List, [], ◌∷◌, get_or}
+use Rattle.std.specs.Prelude.{ℕ, zero, suc, Bool, ◌&&◌, List, [], ◌∷◌, get_or}
 use Rattle.effect_one.specs.declared.Held.{Held}
 use Rattle.effect_one.specs.declared.One.{One}
 use Rattle.effect.specs.declared.Stock.{Stock}

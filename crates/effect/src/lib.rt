@@ -1,5 +1,6 @@
 // Stocks and effects: six types, each with rights and a count.
 #![tactic(auto)]
+
 ghost use Rattle.std.specs.Prelude.{◌≡◌, ◌<◌, eqb};
 ghost use Rattle.effect_one.specs.Single.{apply_one};
 ghost use Rattle.effect_one.specs.Formulas.{normal_one, then_one, times_one};

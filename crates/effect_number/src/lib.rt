@@ -1,5 +1,6 @@
 // Counts, drops and rights as numbers.
 #![tactic(auto)]
+
 ghost use Rattle.std.specs.Prelude.{◌≡◌, ◌+◌, ◌-◌, ◌<◌, min, max, leb, ltb, eqb};
 ghost use Rattle.effect_number.specs.Number.{pick, less, counted, count_after, rights_after};
 ghost use Rattle.effect_number.specs.Formulas.{written, norm_drop, sum_drop, earlier_drop, rank, larger_drop, count_at_most, within};

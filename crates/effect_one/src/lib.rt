@@ -1,5 +1,6 @@
 // Stocks and effects of one type.
 #![tactic(auto)]
+
 ghost use Rattle.std.specs.Prelude.{◌≡◌};
 ghost use Rattle.effect_one.specs.Single.{drop_only, idle, apply_one};
 ghost use Rattle.effect_one.specs.Formulas.{normal_form, normal_one, drawn, granted, then_one, times_one, both_one, at_most_one, held_at_most, lower_held, covers_held};

@@ -1,5 +1,6 @@
 // Which of two stocks or effects is at most the other, what fails, and the smaller of the two.
 #![tactic(auto)]
+
 ghost use Rattle.std.specs.Prelude.{◌≡◌, ◌<◌, min};
 ghost use Rattle.effect_one.specs.Formulas.{both_one, at_most_one, held_at_most, lower_held};
 ghost use Rattle.effect.specs.Six.{among, held_at, one_at};

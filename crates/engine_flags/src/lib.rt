@@ -1,6 +1,7 @@
 // The area that is lent to the queue engine: which nodes are to be looked at again. Byte n: node n waits. 512 + m: an exit of method m was
 // lowered. 576 + m: its stock was.
 #![tactic(auto)]
+
 ghost use Rattle.std.specs.Prelude.{◌≡◌, true, ℕ, ◌+◌, ◌<◌, ◌≤◌, length};
 ghost use Rattle.graph_tables.specs.declared.Table.TheVariants.{Calls};
 ghost use Rattle.graph_tables.specs.Rows.{rows_of};

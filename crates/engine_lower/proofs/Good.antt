@@ -41,7 +41,7 @@ rank_of x b s =
 unfoldable pub height : Shape → List ℕ → ℕ
 height x s = potential (rank_of x) x s
 
--- The sheet has its length, is of bytes, has no ill_formed block, and what it says runs bring.
+-- The sheet has its length, is of bytes, has no ill-formed block, and what it says runs bring.
 module _ (f : List ℕ) (pass : judge_of f ≡ Pass) where
   pub record Good (s : List ℕ) : Type 0 where
     pub long : length s ≡ sheet_bytes (shape_of (tables_of f))

@@ -1,5 +1,5 @@
 -- What may stand in a block: the operations keep to it, and so do the file's steps and opening stock and the blocks of a
--- well_formed sheet.
+-- well-formed sheet.
 use Prim.Native.Nat.{ℕ, zero, suc, ◌+◌, ◌-◌, ◌*◌, ◌≤◌, ◌<◌}
 use mathlib.Core.Path.{◌≡◌, refl}
 use mathlib.Core.Bool.{Bool, true, false}
@@ -131,7 +131,7 @@ module _ (f : List ℕ) (pass : judge_of f ≡ Pass) where
   pub opening_stands : StockStands (tables_of f).types (opening_in f (tables_of f))
   opening_stands = stock_stands (tables_of f).types (opening_in f (tables_of f)) (opening_of f pass)
 
--- what a marked block says, in a sheet with no ill_formed block
+-- what a marked block says, in a sheet with no ill-formed block
 module _ (x : Shape) (s : List ℕ) (whole : first_ill s x ≡ block_count x) where
   module _ (b : ℕ) (l : b < block_count x) (m : mark_at s (block_at x b) ≡ 1) where
     pub block_stands : is_stock x b ≡ false → Stands x.types (effect_at s x.types (block_at x b))

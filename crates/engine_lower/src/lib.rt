@@ -1,5 +1,6 @@
 // Lowering one block of a sheet to what a rule asks of it.
 #![tactic(auto)]
+
 ghost use Rattle.std.specs.Prelude.{◌≡◌, not, ◌+◌, ◌*◌, ◌≤◌, length};
 ghost use Rattle.sheet_layout.specs.Layout.{stock_size, effect_size};
 ghost use Rattle.sheet.specs.Under.{effect_under, stock_under};

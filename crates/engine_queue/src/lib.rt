@@ -1,5 +1,6 @@
 // The queue engine: nodes whose rows may ask something new wait in the lent area, and only those are looked at.
 #![tactic(auto)]
+
 ghost use Rattle.std.specs.Prelude.{◌≡◌, ℕ, ◌<◌, ◌≤◌, length, false};
 ghost use Rattle.graph_tables.specs.Rows.{rows_of};
 ghost use Rattle.graph_tables.specs.Kinds.{draw_kind, call_kind};

@@ -1,5 +1,6 @@
 // The work of one row: each block that a rule leads to is lowered where it stands. Both engines, the sweep and the queue, are orders over it.
 #![tactic(auto)]
+
 ghost use Rattle.std.specs.Prelude.{◌≡◌, ℕ, ◌+◌, ◌*◌, ◌<◌, ◌≤◌, length};
 ghost use Rattle.words.specs.Turn.{in_turn};
 ghost use Rattle.graph_tables.specs.declared.Table.TheVariants.{Calls};

@@ -1,5 +1,6 @@
 // One sweep over the ten rules: the rows are walked in their order, and each block that a rule leads to is lowered where it stands.
 #![tactic(auto)]
+
 ghost use Rattle.std.specs.Prelude.{◌≡◌};
 ghost use Rattle.rule_ask.specs.Walk.{table_walk, tables_walk};
 ghost use Rattle.rule_ready.specs.Ready.{Ready};

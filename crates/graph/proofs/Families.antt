@@ -9,7 +9,7 @@ use native.Mathlib.Omega.{arith}
 use lib.Dec.{eqb}
 use borrow.Author.Tests.{eqb-true, eqb-false}
 use Rattle.graph_tables.specs.declared.Tables.{Tables}
-use Rattle.graph_tables.specs.Fields.{parent_of, catch_exception}
+use Rattle.graph_tables.specs.Fields.{parent_of}
 use Rattle.graph_tables.specs.Family.{own, above}
 use Rattle.graph_refuse.specs.Bad.{kin}
 use Rattle.graph_refuse.proofs.Fit.{Kin, kin_says, says_kin}

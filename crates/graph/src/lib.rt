@@ -1,5 +1,6 @@
 // The judgement of a graph file: answers 1 to 9, 15 and 17.
 #![tactic(auto)]
+
 ghost use Rattle.std.specs.Prelude.{◌≡◌};
 ghost use Rattle.words.specs.Lowest.{lowest};
 ghost use Rattle.graph_refuse.specs.Bad.{uncalled};

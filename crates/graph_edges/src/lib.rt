@@ -1,5 +1,6 @@
 // Which rows of the flow, the calls and the catches are refused: the tests behind answers 6, 7 and 8.
 #![tactic(auto)]
+
 ghost use Rattle.std.specs.Prelude.{◌≡◌, ◌||◌, ◌&&◌, ltb, eqb};
 ghost use Rattle.graph_refuse.specs.Bad.{not_above, flow_row, call_row, catch_row, flow_bad, call_bad, kin, throws_other, catch_bad};
 

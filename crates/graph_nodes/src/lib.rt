@@ -1,5 +1,6 @@
 // What the nodes of a file do to a stock, and the stock that a run starts with.
 #![tactic(auto)]
+
 ghost use Rattle.std.specs.Prelude.{◌≡◌};
 ghost use Rattle.graph_tables.specs.Fields.{opening_rights, opening_count};
 ghost use Rattle.model.specs.Stocks.{step_of};

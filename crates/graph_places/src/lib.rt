@@ -1,5 +1,6 @@
 // The answers that name a node are made here, with its line.
 #![tactic(auto)]
+
 ghost use Rattle.std.specs.Prelude.{◌≡◌};
 ghost use Rattle.graph_places.specs.Places.{bad_node_at, no_call_row_at, overdrawn_at, unfit_at};
 

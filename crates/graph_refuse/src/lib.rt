@@ -1,6 +1,7 @@
 // Which counts, lengths, entries, nodes, parents and opening counts of a graph file are refused: the tests behind answers 2 to
 // 5, 9 and 15.
 #![tactic(auto)]
+
 ghost use Rattle.std.specs.Prelude.{◌≡◌};
 ghost use Rattle.graph_refuse.specs.Bad.{fewest, most, count_bad, length_bad, entry_bad, out_of_range, unused_set, node_bad, parent_bad, opening_bad};
 

@@ -1,5 +1,6 @@
 // The rows of one node. The flow, the calls and the catches are sorted, so a node's rows stand together, and are found by halving.
 #![tactic(auto)]
+
 ghost use Rattle.std.specs.Prelude.{◌≡◌, ◌<◌, ◌≤◌};
 ghost use Rattle.graph_rows.specs.Rows.{catch_key, key_of, Sorted, first_row, stretch_of, flow_of, calls_of, own_of, catches_of, no_rows, target_of};
 

@@ -1,5 +1,6 @@
 // The tables of a graph file, looked at one after the other: which row is refused, and with which answer.
 #![tactic(auto)]
+
 ghost use Rattle.std.specs.Prelude.{◌≡◌};
 ghost use Rattle.words.specs.Lowest.{lowest};
 ghost use Rattle.answer.specs.declared.Answer.TheVariants.{Pass};

@@ -1,5 +1,6 @@
 // Where the tables of a graph file stand, and the fields of their rows. What lies past the end of the file reads as 0.
 #![tactic(auto)]
+
 ghost use Rattle.std.specs.Prelude.{◌≡◌, ◌+◌, ◌*◌, ◌<◌};
 ghost use Rattle.words.specs.Bytes.{byte_at, word_at};
 ghost use Rattle.graph_tables.specs.Rows.{rows_of};

@@ -1,5 +1,6 @@
 // The trailer of a graph file, and the tables that it says.
 #![tactic(auto)]
+
 ghost use Rattle.std.specs.Prelude.{◌≡◌, ◌<◌};
 ghost use Rattle.graph_tables.specs.Trailer.{trailer_at, trailer, tables_of};
 

@@ -1,5 +1,6 @@
 // The listing of a graph file, worked out and written as text into a lent output.
 #![tactic(auto)]
+
 ghost use Rattle.std.specs.Prelude.{◌≡◌, ◌≤◌, length};
 ghost use Rattle.graph.specs.Judgement.{judged_of};
 ghost use Rattle.sheet_layout.specs.Layout.{Within};

@@ -1,5 +1,6 @@
 // The first line of the listing, written into a lent buffer. Each function puts its text at `at` and says where the text ends.
 #![tactic(auto)]
+
 ghost use Rattle.std.specs.Prelude.{◌+◌, ◌<◌, ◌≤◌, length};
 ghost use Rattle.words_digits.specs.Puts.{Puts};
 ghost use Rattle.listing_first.specs.Listing.{overdrawn_line, refused_line, first_line};

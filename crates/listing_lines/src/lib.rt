@@ -1,5 +1,6 @@
 // A node's lines of the listing, one for each type, written into a lent buffer.
 #![tactic(auto)]
+
 ghost use Rattle.std.specs.Prelude.{◌+◌, ◌<◌, ◌≤◌, length};
 ghost use Rattle.words_digits.specs.Puts.{Puts};
 ghost use Rattle.listing_first.specs.Listing.{count_text, stock_line, stock_lines};

@@ -1,5 +1,6 @@
 // The listing: the first line, and the lines of the nodes that are reached.
 #![tactic(auto)]
+
 ghost use Rattle.std.specs.Prelude.{◌+◌, ◌≤◌, length};
 ghost use Rattle.words_digits.specs.Text.{joined};
 ghost use Rattle.words_digits.specs.Puts.{Puts};

@@ -1,4 +1,4 @@
--- A graph that fits one_shot has no run that overdraws.
+-- A graph that fits one-shot has no run that overdraws.
 use Prim.Native.Nat.{ℕ, ◌<◌}
 use mathlib.Core.Path.{◌≡◌, refl, sym, subst, ◌∙◌}
 use mathlib.Core.List.{List}
@@ -61,7 +61,7 @@ module _ (f : List ℕ) where
         ]
       ]
 
-  -- Where one_shot is answered 0, no run overdraws.
+  -- Where one-shot is answered 0, no run overdraws.
   pub safe : {a : Answer} → Profiled f (BreaksOneShot f) a → Safe f a
   safe (refused n v) = λ e. absurd (n (zero_pass (judge_of f) (sym v.number_is ∙ e)))
   safe (unfit p n x y v) = λ e. absurd (omega (arith, v.number_is))

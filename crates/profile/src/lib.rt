@@ -1,5 +1,6 @@
 // Profiles: how an add-on asks for its permits. Judged by the rows of a graph file alone, which is only read.
 #![tactic(auto)]
+
 ghost use Rattle.std.specs.Prelude.{◌≡◌};
 ghost use Rattle.graph_nodes.specs.Program.{Safe};
 ghost use Rattle.profile.specs.Profile.{Profiled, BreaksOneShot, BreaksSession};

@@ -1,5 +1,6 @@
 // Which nodes the rows of a graph file convict, and the lowest that breaks a profile.
 #![tactic(auto)]
+
 ghost use Rattle.std.specs.Prelude.{◌≡◌};
 ghost use Rattle.profile_looks.specs.Looks.{is_draw, asks, rows_of, node_of, convicts, convicted, lowest_of, breaking};
 

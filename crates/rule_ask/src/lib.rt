@@ -1,5 +1,6 @@
 // What the rules ask, row by row: what stands where a row comes from. Check and work out do two things with it where the row leads to.
 #![tactic(auto)]
+
 ghost use Rattle.std.specs.Prelude.{◌≡◌, true, ◌+◌, ◌*◌, ◌<◌, ◌≤◌, length};
 ghost use Rattle.graph_tables.specs.Fields.{node_number};
 ghost use Rattle.sheet_layout.specs.Layout.{effect_size, node_at};

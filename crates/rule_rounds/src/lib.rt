@@ -1,5 +1,6 @@
 // What the rounds of a repeated call come to. Effects alone: nothing here knows of graphs.
 #![tactic(auto)]
+
 ghost use Rattle.std.specs.Prelude.{◌≡◌, true, List, ◌<◌, ◌≤◌};
 ghost use Rattle.rule_rounds.specs.Chain.{digit_on, power_chain, steps_of, most_steps, Taking};
 ghost use Rattle.rule_rounds.specs.Climb.{climb_of};

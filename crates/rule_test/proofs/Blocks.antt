@@ -1,4 +1,4 @@
--- "Mark 1 and at most", tested on the bytes of a sheet with no ill_formed block, is what the rules mean by it.
+-- "Mark 1 and at most", tested on the bytes of a sheet with no ill-formed block, is what the rules mean by it.
 use Prim.Native.Nat.{ℕ, ◌+◌, ◌*◌, ◌%◌, ◌<◌}
 use mathlib.Core.Path.{◌≡◌, refl}
 use mathlib.Core.Logic.{◌↔◌}
@@ -42,7 +42,7 @@ module _ (x : Shape) (s : List ℕ) (w : ℕ) where
   unfolding stock_under
   stock_complete h m q = and_i (true_mark s w m) (stock_at_complete _ h (λ k l. (stock_read s x.types w).rights.words k l) q)
 
--- of a sheet with no ill_formed block
+-- of a sheet with no ill-formed block
 module _ (x : Shape) (s : List ℕ) (whole : first_ill s x ≡ block_count x) where
   open sheet_in x s use {Called, stock, Exit, exit, Node, node}
 

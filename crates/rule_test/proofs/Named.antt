@@ -1,4 +1,4 @@
--- What the rows ask on the bytes is what the rules name: of a well_formed sheet of a file that passes, each ask is of a block that a rule leads
+-- What the rows ask on the bytes is what the rules name: of a well-formed sheet of a file that passes, each ask is of a block that a rule leads
 -- to and, at each coordinate, no less than what the rule names there; and for all that a rule names there is an ask that is at most that.
 use Prim.Native.Nat.{ℕ, suc, ◌+◌, ◌≤◌, ◌<◌}
 use mathlib.Core.Path.{◌≡◌, refl, sym, ap, subst, ◌∙◌}

@@ -24,7 +24,7 @@ module _ (f s : List ℕ) where
   abbrev pub sheet : Sheet permits
   sheet = sheet_in (shape f) s
 
-  -- no test refuses the file; the sheet has the length and no ill_formed block
+  -- no test refuses the file; the sheet has the length and no ill-formed block
   abbrev pub WellFormed : Type 0
   WellFormed = (judge_of f ≡ Pass) × (length s ≡ sheet_bytes (shape f)) × ((b : ℕ) → b < block_count (shape f) → ill_block s (shape f) b ≡ false)
 

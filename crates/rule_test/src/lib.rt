@@ -1,5 +1,6 @@
 // Whether a sheet obeys the rules: the least key of what its rows ask. Every function takes the least key so far and gives the new one.
 #![tactic(auto)]
+
 ghost use Rattle.std.specs.Prelude.{◌≡◌, true, false, ◌<◌, ◌≤◌};
 ghost use Rattle.words.specs.Turn.{in_turn};
 ghost use Rattle.graph_tables.specs.declared.Table.TheVariants.{Calls};

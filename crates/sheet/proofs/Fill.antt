@@ -11,7 +11,6 @@ use Rattle.words.specs.Write.{bytes_of}
 use Rattle.words.proofs.Splice.{bytes_same}
 use Rattle.sheet_layout.specs.Layout.{stock_size}
 use Rattle.effect.specs.declared.Stock.{Stock}
-use Rattle.effect.specs.Six.{six}
 use Rattle.effect.proofs.Six.{below_six}
 use Rattle.sheet.specs.Write.{stock_word, stock_bytes, laid_out, blanked}
 

@@ -1,5 +1,6 @@
 // The blocks of a sheet: read from lent bytes, and written where they stand in it.
 #![tactic(auto)]
+
 ghost use Rattle.std.specs.Prelude.{◌≡◌, true, ◌↔◌, ◌+◌, ◌*◌, ◌<◌, ◌≤◌, length, get_or};
 ghost use Rattle.sheet_layout.specs.Layout.{stock_size, effect_size};
 ghost use Rattle.effect.specs.Six.{six, held_at, one_at};

@@ -1,5 +1,6 @@
 // Blocks of a sheet compared, and stepped, where they stand, type by type.
 #![tactic(auto)]
+
 ghost use Rattle.std.specs.Prelude.{◌≡◌, ◌+◌, ◌*◌, ◌<◌, ◌≤◌, length, eqb};
 ghost use Rattle.sheet_layout.specs.Layout.{effect_size};
 ghost use Rattle.effect_one.specs.Formulas.{then_one, at_most_one};

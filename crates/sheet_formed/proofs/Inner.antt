@@ -8,9 +8,8 @@ use native.Mathlib.Omega.{arith}
 use borrow.Author.Count.{below_more}
 use Rattle.words.specs.Bytes.{word_at}
 use Rattle.words.specs.Four.{four_at}
-use Rattle.words.proofs.Four.{ZeroFour, four_zero, zero_four}
+use Rattle.words.proofs.Four.{four_zero, zero_four}
 use Rattle.words.proofs.Lowest.{NoneBelow}
-use Rattle.sheet_layout.specs.Layout.{effect_size}
 use Rattle.effect_one.specs.Single.{idle}
 use Rattle.effect_one.specs.Formulas.{normal_one}
 use Rattle.effect.specs.Six.{one_at}
@@ -23,7 +22,7 @@ use Rattle.sheet.specs.Inner.{one_words}
 use Rattle.sheet.proofs.Types.{one_read, idle_read}
 use Rattle.sheet_formed.specs.Ill.{not_zero, some_word}
 use Rattle.sheet_formed.proofs.Scan.{zero_there}
-use Rattle.sheet_formed.proofs.Judged.{AllZero, all_zero}
+use Rattle.sheet_formed.proofs.Judged.{all_zero}
 
 module _ (s : List ℕ) (w : ℕ) where
   at : (j k : ℕ) → sheet_word s (w + (1 + 4 * k + j)) ≡ word_at s (2 * (w + (1 + 4 * k)) + 2 * j)

@@ -110,6 +110,6 @@ ill_same s r x b h =
     let c = fits_same s r x.types (block_at x b) (is_stock x b) h in
     λ i. ill_by (m i) (a i) (c i)
 
--- every block of a sheet with no ill_formed one
+-- every block of a sheet with no ill-formed one
 pub block_formed : (x : Shape) (s : List ℕ) → first_ill s x ≡ block_count x → (b : ℕ) → b < block_count x → Formed s x b
 block_formed x s whole b l = formed s x b ((is_lowest (ill_block s x) (block_count x)).before b (omega (arith, whole)))

@@ -32,6 +32,6 @@ unfoldable pub ill_block : List ℕ → Shape → ℕ → Bool
 ill_block s x b =
     ill_by (mark_at s (block_at x b)) (some_word s (block_at x b) (block_size x b)) (fits s x.types (block_at x b) (is_stock x b))
 
--- the lowest ill_formed block, and the number of blocks where there is none
+-- the lowest ill-formed block, and the number of blocks where there is none
 abbrev pub first_ill : List ℕ → Shape → ℕ
 first_ill s x = lowest (ill_block s x) (block_count x)

@@ -1,5 +1,6 @@
 // Which blocks of a sheet are ill formed.
 #![tactic(auto)]
+
 ghost use Rattle.std.specs.Prelude.{◌≡◌, ◌+◌, ◌*◌, ◌<◌, ◌≤◌, length};
 ghost use Rattle.sheet_layout.specs.Layout.{effect_size};
 ghost use Rattle.effect.specs.Whole.{normal_of};

@@ -1,5 +1,6 @@
 // Where the blocks of a sheet stand, in words of two bytes. A sheet does not know graphs: its shape is three numbers.
 #![tactic(auto)]
+
 ghost use Rattle.std.specs.Prelude.{◌≡◌, ◌<◌, length};
 ghost use Rattle.sheet_layout.specs.Layout.{method_at, exit_at, node_at, longest_sheet, sheet_bytes, block_count, is_stock, block_size, block_at};
 

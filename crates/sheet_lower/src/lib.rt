@@ -1,5 +1,6 @@
 // Effects of a sheet marked and lowered where they stand, type by type.
 #![tactic(auto)]
+
 ghost use Rattle.std.specs.Prelude.{◌≡◌, cond, ◌+◌, ◌*◌, ◌<◌, ◌≤◌, length};
 ghost use Rattle.words.specs.Write.{splice};
 ghost use Rattle.sheet_layout.specs.Layout.{effect_size};

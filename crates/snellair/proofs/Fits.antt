@@ -1,4 +1,4 @@
--- A graph that fits one_shot also passes: where one_shot gives 0, work out gives 0 for every sheet of the right length.
+-- A graph that fits one-shot also passes: where one-shot gives 0, work out gives 0 for every sheet of the right length.
 use Prim.Native.Nat.{ℕ}
 use mathlib.Core.Path.{◌≡◌, sym, ap, ◌∙◌}
 use mathlib.Core.List.{List}

@@ -36,7 +36,7 @@ pub record CheckedMany (f s w r : List ℕ) (n : ℕ) : Type 0 where
   pub safe : SafeRow f r answer
   pub packed : n ≡ packed_of answer
 
--- of one_shot; the number 0 is given for no graph that has a run that overdraws
+-- of one-shot; the number 0 is given for no graph that has a run that overdraws
 pub record OneShot (f : List ℕ) (n : ℕ) : Type 0 where
   pub answer : Answer
   pub means : Profiled f (BreaksOneShot f) answer

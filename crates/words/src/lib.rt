@@ -1,5 +1,6 @@
 // Bytes and little-endian words of a lent slice, read and written. What lies past the end reads as 0, so no reader has an index to show.
 #![tactic(auto)]
+
 ghost use Rattle.std.specs.Prelude.{◌≡◌, ◌+◌, ◌*◌, ◌<◌, ◌≤◌, min, length, get_or};
 ghost use Rattle.words.specs.Bytes.{byte_at, word_at};
 ghost use Rattle.words.specs.Four.{four_at};

@@ -1,5 +1,6 @@
 // Bytes, decimal and hex digits, written into a lent buffer. Each function puts its text at `at` and says where the text ends.
 #![tactic(auto)]
+
 ghost use Rattle.std.specs.Prelude.{◌≡◌, [], ◌∷◌, ◌+◌, ◌<◌, ◌≤◌, length};
 ghost use Rattle.words_digits.specs.Digits.{place_text, decimal, hex_digit, four_hex};
 ghost use Rattle.words_digits.specs.Puts.{Puts};

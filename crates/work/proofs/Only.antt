@@ -43,7 +43,7 @@ module _ (f : List ℕ) where
     node_under : (n : ℕ) → n < x.nodes → EffectUnder x.types (node_at x n) s r
     node_under n l k = let y = u.nodes_under n l (l, k) in (y.0.1, y.1)
 
-  -- two well_formed sheets that are each under the other
+  -- two well-formed sheets that are each under the other
   module _ (r q : List ℕ) (v : WellFormed f r) (w : WellFormed f q) (high : Under permits (graph_of f) (sheet f r) (sheet f q)) (low : Under permits (graph_of f) (sheet f q) (sheet f r)) where
     same_block : (b : ℕ) → b < block_count x → SameWords r q (block_at x b) (block_size x b)
     same_block b l = elim (dec_lt b (10 * x.methods)) [

@@ -16,7 +16,7 @@ use Rattle.rule_test.specs.Sheet.{shape, sheet, WellFormed, Holds, IsReached, st
 
 -- The sheet r that is written.
 pub record Worked (f r : List ℕ) : Type 0 where
-  -- It has the right length, is of bytes, has no ill_formed block, and obeys the rules.
+  -- It has the right length, is of bytes, has no ill-formed block, and obeys the rules.
   pub well_formed : WellFormed f r
   pub bytes : (i : ℕ) → get_or r i 0 < 256
   pub obeys : (q : ℕ) → Holds f r q

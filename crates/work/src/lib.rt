@@ -1,5 +1,6 @@
 // Work out: a graph file in, the verdict and the permission sheet out.
 #![tactic(auto)]
+
 ghost use Rattle.std.specs.Prelude.{◌≡◌};
 ghost use Rattle.answer.specs.declared.Answer.TheVariants.{Pass};
 ghost use Rattle.graph_tables.specs.Trailer.{tables_of};

@@ -1,5 +1,6 @@
 // Work out by the queue engine: the same answers and the same sheets, in a lent area of 4,096 bytes.
 #![tactic(auto)]
+
 ghost use Rattle.std.specs.Prelude.{◌≡◌};
 ghost use Rattle.answer.specs.declared.Answer.TheVariants.{Pass};
 ghost use Rattle.graph_tables.specs.Trailer.{tables_of};

@@ -1,5 +1,4 @@
 use mathlib.Core.Path.{◌≡◌, sym, ap, ◌∙◌}
-use borrow.Author.Rules.{rules}
 use borrow.Author.Tests.{eq-eqb, ne_eqb}
 use Rattle.answer.specs.declared.Answer.TheVariants.{Pass}
 use Rattle.answer.specs.Number.{number_of}

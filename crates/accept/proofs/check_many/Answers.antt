@@ -1,5 +1,4 @@
 use mathlib.Core.Path.{◌≡◌, refl, sym, ap, ◌∙◌}
-use borrow.Author.Rules.{rules}
 use Rattle.answer.specs.declared.Answer.TheVariants.{Pass}
 use Rattle.answer.specs.Number.{number_of}
 use Rattle.answer.proofs.Unpack.{zero_pass}

@@ -1,11 +1,7 @@
 use Prim.Native.Nat.{◌≤◌, ◌-◌}
-use mathlib.Core.Path.{◌≡◌, sym, subst}
-use native.Mathlib.Omega.{arith}
 use lib.ListN.{length}
-use borrow.Author.Rules.{rules}
 use Rattle.accept_row.specs.Counts.{Counts}
 use Rattle.accept.specs.Many.{Told}
-use Rattle.accept.proofs.Many.{sheet_within, relies, as_alone, told_none, told_more}
 use Rattle.accept.proofs.fill_row.Given as goal
 
 abbrev pub invariant-loop-i : goal.invariant-loop-i

@@ -1,7 +1,5 @@
 use Prim.Native.Nat.{◌/◌, ◌%◌, ◌<◌, ◌≤◌}
 use mathlib.Core.Path.{ap, ◌∙◌}
-use native.Mathlib.Omega.{arith}
-use borrow.Author.Rules.{rules}
 use borrow.Author.Tests.{lt-ltb, le-ltb}
 use Rattle.answer.specs.declared.Answer.TheVariants.{Broken}
 use Rattle.rule_test.specs.Keys.{no_key, least_key}

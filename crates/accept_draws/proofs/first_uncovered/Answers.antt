@@ -1,8 +1,7 @@
-use Prim.Native.Nat.{◌≤◌, ◌-◌}
 use mathlib.Core.Path.{refl, sym, ◌∙◌}
-use borrow.Author.Count.{below_more, below_none}
+use borrow.Author.Count.{below_more}
 use borrow.Author.Rules.{rules}
-use Rattle.words.proofs.Lowest.{NoneBelow, scan_found, scan_none}
+use Rattle.words.proofs.Lowest.{scan_found, scan_none}
 use Rattle.accept_draws.specs.Draws.{uncovered_at}
 use Rattle.accept_draws.proofs.first_uncovered.Goals as goal
 

@@ -1,8 +1,5 @@
 use Prim.Native.Nat.{◌≤◌, ◌-◌}
-use mathlib.Core.Path.{refl, sym, ◌∙◌}
-use borrow.Author.Count.{below_more, below_none}
-use borrow.Author.Rules.{rules}
-use Rattle.words.proofs.Lowest.{NoneBelow, scan_found, scan_none}
+use Rattle.words.proofs.Lowest.{NoneBelow}
 use Rattle.accept_draws.specs.Draws.{uncovered_at}
 use Rattle.accept_draws.proofs.first_uncovered.Given as goal
 

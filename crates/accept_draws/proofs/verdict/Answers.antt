@@ -1,6 +1,5 @@
 use Prim.Native.Nat.{◌<◌, ◌≤◌}
 use mathlib.Core.Path.{ap, ◌∙◌}
-use borrow.Author.Rules.{rules}
 use borrow.Author.Tests.{lt-ltb, le-ltb}
 use Rattle.words.specs.Lowest.{lowest}
 use Rattle.graph_places.specs.Places.{overdrawn_at}

@@ -2,7 +2,6 @@ use Prim.Native.Nat.{◌*◌, ◌/◌, ◌≤◌}
 use mathlib.Core.Path.{◌≡◌, sym, ap, ◌∙◌}
 use native.Mathlib.Nat.{mul-le-mul}
 use native.Mathlib.Omega.{arith}
-use borrow.Author.Rules.{rules}
 use Rattle.sheet_layout.specs.Layout.{sheet_bytes}
 use Rattle.sheet_layout.proofs.Bounds.{sheet_le}
 use Rattle.accept_row.proofs.count_of.Goals as goal
@@ -18,10 +17,13 @@ overflow_mul-count-2 c =
 
 pub returns-then-bytes-count : goal.returns-then-bytes-count
 returns-then-bytes-count c =
-    record { some = λ l. omega arith; none = λ z k h.
-      let a = c.args in
-      let e : k ≡ a.numbers / 2 = omega (arith, h.two) in
-      c.if-bytes-count.true (h.whole ∙ (λ i. e i * sym c.sheet_bytes.ensures i)) }
+    record {
+      some = λ l. omega arith;
+      none = λ z k h.
+          let a = c.args in
+          let e : k ≡ a.numbers / 2 = omega (arith, h.two) in
+          c.if-bytes-count.true (h.whole ∙ (λ i. e i * sym c.sheet_bytes.ensures i));
+    }
 
 pub returns : goal.returns
 returns c =

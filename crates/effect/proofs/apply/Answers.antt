@@ -1,11 +1,10 @@
 use borrow.Author.Rules.{rules}
-use Prim.Native.Nat.{◌-◌}
 use mathlib.Core.Path.{refl}
 use native.Mathlib.Omega.{arith}
 use Rattle.effect_one.specs.Single.{apply_one}
 use Rattle.effect.specs.Six.{held_at, one_at}
 use Rattle.effect.specs.Whole.{apply_of}
-use Rattle.effect.proofs.Filled.{Helds, helds_more, helds_all}
+use Rattle.effect.proofs.Filled.{helds_more, helds_all}
 use Rattle.effect.proofs.apply.Goals as goal
 
 pub loop-j-init : goal.loop-j-init

@@ -1,11 +1,7 @@
-use borrow.Author.Rules.{rules}
 use Prim.Native.Nat.{◌-◌}
-use mathlib.Core.Path.{refl}
-use native.Mathlib.Omega.{arith}
 use Rattle.effect_one.specs.Single.{apply_one}
 use Rattle.effect.specs.Six.{held_at, one_at}
-use Rattle.effect.specs.Whole.{apply_of}
-use Rattle.effect.proofs.Filled.{Helds, helds_more, helds_all}
+use Rattle.effect.proofs.Filled.{Helds}
 use Rattle.effect.proofs.apply.Given as goal
 
 abbrev pub invariant-loop-j : goal.invariant-loop-j

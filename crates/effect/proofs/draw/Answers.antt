@@ -1,4 +1,3 @@
-use borrow.Author.Rules.{rules}
 use Rattle.effect.specs.Whole.{draw_of}
 use Rattle.effect.proofs.Laws.{draw_normal}
 use Rattle.effect.proofs.Coordinate.{apply_draw}

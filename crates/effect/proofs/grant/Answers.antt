@@ -1,4 +1,3 @@
-use borrow.Author.Rules.{rules}
 use Rattle.effect.specs.Whole.{grant_of}
 use Rattle.effect.proofs.Laws.{grant_normal}
 use Rattle.effect.proofs.Coordinate.{apply_grant}

@@ -1,11 +1,9 @@
 use borrow.Author.Rules.{rules}
-use Prim.Native.Nat.{◌-◌, ◌≤◌}
-use mathlib.Core.Path.{◌≡◌}
 use native.Mathlib.Omega.{arith}
 use Rattle.effect_one.specs.Formulas.{normal_one}
 use Rattle.effect.specs.Six.{one_at}
 use Rattle.effect.specs.Whole.{normal_of}
-use Rattle.effect.proofs.Filled.{all_below, all_none, all_more, all_all}
+use Rattle.effect.proofs.Filled.{all_none, all_more, all_all}
 use Rattle.effect.proofs.Means.{tells_normal}
 use Rattle.effect.proofs.normal.Goals as goal
 

@@ -1,4 +1,3 @@
-use borrow.Author.Rules.{rules}
 use mathlib.Core.Path.{◌∙◌, ap}
 use Rattle.effect_one.specs.declared.One.{One}
 use Rattle.effect.specs.Six.{effect_of}

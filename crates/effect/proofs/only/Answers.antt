@@ -1,4 +1,3 @@
-use borrow.Author.Rules.{rules}
 use Rattle.effect.proofs.Filled.{one_set, none_set}
 use Rattle.effect.proofs.only.Goals as goal
 

@@ -1,14 +1,7 @@
-use borrow.Author.Rules.{rules}
 use Prim.Native.Nat.{◌-◌}
-use mathlib.Core.Path.{refl}
-use native.Mathlib.Omega.{arith}
 use Rattle.effect_one.specs.Formulas.{then_one}
 use Rattle.effect.specs.Six.{one_at}
-use Rattle.effect.specs.Whole.{then_of}
-use Rattle.effect.proofs.Filled.{Ones, ones_more, ones_all, unfilled}
-use Rattle.effect.proofs.Laws.{then_normal}
-use Rattle.effect.proofs.Coordinate.{apply_then}
-use Rattle.effect.proofs.Means.{leaves}
+use Rattle.effect.proofs.Filled.{Ones, unfilled}
 use Rattle.effect.proofs.then.Given as goal
 
 abbrev pub invariant-loop-k : goal.invariant-loop-k

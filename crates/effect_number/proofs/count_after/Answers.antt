@@ -1,4 +1,3 @@
-use borrow.Author.Rules.{rules}
 use Rattle.effect_number.proofs.Cases.{after_is}
 use Rattle.effect_number.proofs.count_after.Goals as goal
 

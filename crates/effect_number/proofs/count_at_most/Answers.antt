@@ -1,6 +1,5 @@
 use mathlib.Core.Path.{sym, ◌∙◌}
 use native.Mathlib.Omega.{arith}
-use borrow.Author.Rules.{rules}
 use Rattle.effect_number.proofs.Cases.{count_none, count_over, count_under}
 use Rattle.effect_number.proofs.count_at_most.Goals as goal
 

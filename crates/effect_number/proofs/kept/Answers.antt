@@ -1,4 +1,3 @@
-use borrow.Author.Rules.{rules}
 use mathlib.Core.Path.{◌∙◌}
 use Rattle.effect_number.proofs.Cases.{kept_is}
 use Rattle.effect_number.proofs.kept.Goals as goal

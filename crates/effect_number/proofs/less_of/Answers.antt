@@ -1,4 +1,3 @@
-use borrow.Author.Rules.{rules}
 use mathlib.Core.Path.{sym, ◌∙◌}
 use Rattle.effect_number.proofs.Cases.{less_endless, less_finite}
 use Rattle.effect_number.proofs.less_of.Goals as goal

@@ -1,4 +1,3 @@
-use borrow.Author.Rules.{rules}
 use Rattle.effect_one.specs.Single.{apply_one}
 use Rattle.effect_one.proofs.apply.Goals as goal
 

@@ -1,4 +1,3 @@
-use borrow.Author.Rules.{rules}
 use Rattle.effect_one.specs.Formulas.{normal_form, at_most_one}
 use Rattle.effect_one.proofs.at_most.Goals as goal
 

@@ -1,4 +1,3 @@
-use borrow.Author.Rules.{rules}
 use Rattle.effect_one.specs.Formulas.{covers_held}
 use Rattle.effect_one.proofs.covers.Goals as goal
 

@@ -1,4 +1,3 @@
-use borrow.Author.Rules.{rules}
 use Rattle.effect_one.specs.Formulas.{drawn}
 use Rattle.effect_one.proofs.draw.Goals as goal
 

@@ -1,4 +1,3 @@
-use borrow.Author.Rules.{rules}
 use Rattle.effect_one.specs.Formulas.{granted}
 use Rattle.effect_one.proofs.grant.Goals as goal
 

@@ -1,4 +1,3 @@
-use borrow.Author.Rules.{rules}
 use Rattle.effect_one.specs.Formulas.{lower_held}
 use Rattle.effect_one.proofs.lower.Goals as goal
 

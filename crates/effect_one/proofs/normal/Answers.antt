@@ -1,4 +1,3 @@
-use borrow.Author.Rules.{rules}
 use Rattle.effect_one.specs.Formulas.{normal_one}
 use Rattle.effect_one.proofs.normal.Goals as goal
 

@@ -1,4 +1,3 @@
-use borrow.Author.Rules.{rules}
 use Rattle.effect_one.specs.Formulas.{normal_form}
 use Rattle.effect_one.proofs.normal_form.Goals as goal
 

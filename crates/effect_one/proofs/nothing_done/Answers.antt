@@ -1,4 +1,3 @@
-use borrow.Author.Rules.{rules}
 use Rattle.effect_one.specs.Single.{idle}
 use Rattle.effect_one.proofs.nothing_done.Goals as goal
 

@@ -1,4 +1,3 @@
-use borrow.Author.Rules.{rules}
 use Rattle.effect_one.specs.Formulas.{held_at_most}
 use Rattle.effect_one.proofs.stock_at_most.Goals as goal
 

@@ -1,4 +1,3 @@
-use borrow.Author.Rules.{rules}
 use mathlib.Core.Path.{sym, ◌∙◌}
 use Rattle.effect_one.proofs.Cases.{times_none, times_some}
 use Rattle.effect_one.proofs.times.Goals as goal

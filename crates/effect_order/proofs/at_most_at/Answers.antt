@@ -1,4 +1,3 @@
-use borrow.Author.Rules.{rules}
 use Rattle.effect_order.proofs.at_most_at.Goals as goal
 
 pub returns : goal.returns

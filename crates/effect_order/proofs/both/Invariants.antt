@@ -1,14 +1,7 @@
-use borrow.Author.Rules.{rules}
 use Prim.Native.Nat.{◌-◌}
-use mathlib.Core.Path.{refl}
-use native.Mathlib.Omega.{arith}
 use Rattle.effect_one.specs.Formulas.{both_one}
 use Rattle.effect.specs.Six.{one_at}
-use Rattle.effect.specs.Whole.{both_of}
-use Rattle.effect.proofs.Filled.{Ones, ones_more, ones_all, unfilled}
-use Rattle.effect.proofs.Laws.{both_normal}
-use Rattle.effect.proofs.Coordinate.{apply_both}
-use Rattle.effect.proofs.Means.{leaves}
+use Rattle.effect.proofs.Filled.{Ones, unfilled}
 use Rattle.effect_order.proofs.both.Given as goal
 
 abbrev pub invariant-loop-j : goal.invariant-loop-j

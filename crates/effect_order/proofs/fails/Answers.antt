@@ -1,4 +1,3 @@
-use borrow.Author.Rules.{rules}
 use Rattle.effect_one.specs.Formulas.{at_most_one}
 use Rattle.effect.specs.Six.{one_at}
 use Rattle.effect.specs.Whole.{fails_of}

@@ -1,11 +1,10 @@
 use borrow.Author.Rules.{rules}
-use Prim.Native.Nat.{◌-◌}
 use mathlib.Core.Path.{refl}
 use native.Mathlib.Omega.{arith}
 use Rattle.effect_one.specs.Formulas.{lower_held}
 use Rattle.effect.specs.Six.{held_at}
 use Rattle.effect.specs.Whole.{lower_of}
-use Rattle.effect.proofs.Filled.{Helds, helds_more, helds_all}
+use Rattle.effect.proofs.Filled.{helds_more, helds_all}
 use Rattle.effect.proofs.Means.{lowers}
 use Rattle.effect_order.proofs.lower.Goals as goal
 

@@ -1,9 +1,9 @@
 use borrow.Author.Rules.{rules}
 use borrow.Author.Count.{below_more, below_none}
-use Prim.Native.Nat.{ℕ, ◌-◌, ◌≤◌}
+use Prim.Native.Nat.{ℕ}
 use mathlib.Core.Path.{refl, sym, ap, ◌∙◌}
 use mathlib.Core.Bool.{Bool, not}
-use Rattle.words.proofs.Lowest.{NoneBelow, scan_found, scan_none}
+use Rattle.words.proofs.Lowest.{scan_found, scan_none}
 use Rattle.effect_one.specs.Formulas.{held_at_most}
 use Rattle.effect.specs.declared.Stock.{Stock}
 use Rattle.effect.specs.Six.{held_at}

@@ -1,7 +1,4 @@
-use mathlib.Core.Path.{sym, ◌∙◌}
-use mathlib.Core.Bool.{false≢true}
 use native.Mathlib.Omega.{arith}
-use borrow.Author.Rules.{rules}
 use Rattle.engine_flags.proofs.Flags.{eight_back, eight_forth, turned_eight, turned_forth}
 use Rattle.engine_flags.proofs.eight_clear.Goals as goal
 

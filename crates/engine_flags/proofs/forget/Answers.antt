@@ -1,11 +1,9 @@
-use Prim.Native.Nat.{ℕ, ◌-◌, ◌≤◌, ◌<◌}
-use mathlib.Core.Path.{◌≡◌, refl, ◌∙◌}
+use Prim.Native.Nat.{◌<◌}
+use mathlib.Core.Path.{◌≡◌, ◌∙◌}
 use native.Mathlib.Decide.{dec_lt}
 use native.Mathlib.Omega.{arith}
-use lib.ListN.{length, get_or, length-set}
+use lib.ListN.{length, length-set}
 use lib.Seq.{get_or-set_same, get_or-set_other}
-use borrow.Author.Rules.{rules}
-use Rattle.engine_flags.specs.Flags.{Forgot}
 use Rattle.engine_flags.proofs.forget.Goals as goal
 
 pub loop-i-preserved : goal.loop-i-preserved

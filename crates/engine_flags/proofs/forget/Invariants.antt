@@ -1,11 +1,6 @@
 use Prim.Native.Nat.{ℕ, ◌-◌, ◌≤◌, ◌<◌}
-use mathlib.Core.Path.{◌≡◌, refl, ◌∙◌}
-use native.Mathlib.Decide.{dec_lt}
-use native.Mathlib.Omega.{arith}
-use lib.ListN.{length, get_or, length-set}
-use lib.Seq.{get_or-set_same, get_or-set_other}
-use borrow.Author.Rules.{rules}
-use Rattle.engine_flags.specs.Flags.{Forgot}
+use mathlib.Core.Path.{◌≡◌}
+use lib.ListN.{length, get_or}
 use Rattle.engine_flags.proofs.forget.Given as goal
 
 abbrev pub invariant-loop-i : goal.invariant-loop-i

@@ -1,10 +1,7 @@
-use Prim.Native.Nat.{ℕ, ◌+◌, ◌-◌, ◌≤◌}
-use mathlib.Core.Path.{◌≡◌, ap, sym, ◌∙◌}
+use mathlib.Core.Path.{ap, sym, ◌∙◌}
 use lib.ListN.{get_or}
 use native.Mathlib.Omega.{arith}
-use borrow.Author.Rules.{rules}
 use Rattle.rule_ask.proofs.Turned.{turned_inside}
-use Rattle.engine_flags.specs.Flags.{Clear}
 use Rattle.engine_flags.proofs.Flags.{clear_one}
 use Rattle.engine_flags.proofs.next.Goals as goal
 

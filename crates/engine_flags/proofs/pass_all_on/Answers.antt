@@ -1,8 +1,4 @@
-use Prim.Native.Nat.{ℕ, ◌-◌, ◌<◌}
-use native.Mathlib.Omega.{arith}
-use borrow.Author.Rules.{rules}
-use Rattle.engine_flags.specs.Flags.{Woken, PassedOn}
-use Rattle.engine_flags.proofs.Flags.{woken_none, woken_more, still_able, passed_more}
+use Rattle.engine_flags.proofs.Flags.{still_able, passed_more}
 use Rattle.engine_flags.proofs.pass_all_on.Goals as goal
 
 pub pass_on-requires : goal.pass_on-requires

@@ -1,8 +1,5 @@
-use Prim.Native.Nat.{ℕ, ◌-◌, ◌<◌}
-use native.Mathlib.Omega.{arith}
-use borrow.Author.Rules.{rules}
+use Prim.Native.Nat.{◌-◌}
 use Rattle.engine_flags.specs.Flags.{Woken, PassedOn}
-use Rattle.engine_flags.proofs.Flags.{woken_none, woken_more, still_able, passed_more}
 use Rattle.engine_flags.proofs.pass_all_on.Given as goal
 
 abbrev pub invariant-loop-k : goal.invariant-loop-k

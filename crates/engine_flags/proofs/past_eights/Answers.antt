@@ -1,7 +1,5 @@
-use Prim.Native.Nat.{ℕ, ◌+◌, ◌-◌, ◌≤◌}
+use Prim.Native.Nat.{◌+◌}
 use native.Mathlib.Omega.{arith}
-use borrow.Author.Rules.{rules}
-use Rattle.engine_flags.specs.Flags.{Clear}
 use Rattle.engine_flags.proofs.Flags.{clear_more}
 use Rattle.engine_flags.proofs.past_eights.Goals as goal
 

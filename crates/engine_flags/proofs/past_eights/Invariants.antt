@@ -1,8 +1,5 @@
-use Prim.Native.Nat.{ℕ, ◌+◌, ◌-◌, ◌≤◌}
-use native.Mathlib.Omega.{arith}
-use borrow.Author.Rules.{rules}
+use Prim.Native.Nat.{◌-◌, ◌≤◌}
 use Rattle.engine_flags.specs.Flags.{Clear}
-use Rattle.engine_flags.proofs.Flags.{clear_more}
 use Rattle.engine_flags.proofs.past_eights.Given as goal
 
 abbrev pub invariant-loop-j : goal.invariant-loop-j

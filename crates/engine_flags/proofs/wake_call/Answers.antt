@@ -1,10 +1,8 @@
-use Prim.Native.Nat.{◌+◌}
-use mathlib.Core.Path.{◌≡◌, sym, ap, ◌∙◌}
+use mathlib.Core.Path.{◌∙◌}
 use native.Mathlib.Omega.{arith}
-use borrow.Author.Rules.{rules}
 use Rattle.graph_tables.specs.declared.Table.TheVariants.{Flow}
 use Rattle.graph_rows.proofs.Stretches.{to_within}
-use Rattle.engine_flags.proofs.Flags.{woken_more, still_able, sorted, all_kept, call_inside}
+use Rattle.engine_flags.proofs.Flags.{woken_more, still_able, sorted, call_inside}
 use Rattle.engine_flags.proofs.wake_call.Goals as goal
 
 pub wake_each-requires : goal.wake_each-requires

@@ -1,9 +1,6 @@
-use Prim.Native.Nat.{ℕ, ◌-◌, ◌≤◌, ◌<◌}
 use native.Mathlib.Omega.{arith}
-use borrow.Author.Rules.{rules}
 use Rattle.graph_rows.specs.Rows.{target_of}
-use Rattle.engine_flags.specs.Flags.{Waits, Woken}
-use Rattle.engine_flags.proofs.Flags.{woken_none, woken_more, wait_more, leads_inside}
+use Rattle.engine_flags.proofs.Flags.{woken_more, wait_more, leads_inside}
 use Rattle.engine_flags.proofs.wake_each.Goals as goal
 
 pub wake-requires : goal.wake-requires

@@ -1,6 +1,5 @@
 use mathlib.Core.Path.{◌∙◌}
 use native.Mathlib.Omega.{arith}
-use borrow.Author.Rules.{rules}
 use borrow.Author.Tests.{eqb-true}
 use Rattle.graph_tables.specs.Kinds.{return_kind, throw_kind}
 use Rattle.graph_tables.specs.Fields.{node_kind}

@@ -1,5 +1,3 @@
-use native.Mathlib.Omega.{arith}
-use borrow.Author.Rules.{rules}
 use Rattle.engine_flags.proofs.wake_exits.Goals as goal
 
 pub returns : goal.returns

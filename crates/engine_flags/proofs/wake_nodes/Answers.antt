@@ -1,9 +1,5 @@
-use Prim.Native.Nat.{ℕ, ◌-◌, ◌≤◌, ◌<◌}
 use native.Mathlib.Omega.{arith}
-use mathlib.Core.Path.{◌≡◌, ◌∙◌}
-use lib.ListN.{length}
-use borrow.Author.Rules.{rules}
-use Rattle.engine_flags.specs.Flags.{Waits}
+use mathlib.Core.Path.{◌∙◌}
 use Rattle.engine_flags.proofs.Flags.{wait_more}
 use Rattle.engine_flags.proofs.wake_nodes.Goals as goal
 

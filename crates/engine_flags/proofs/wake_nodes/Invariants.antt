@@ -1,10 +1,7 @@
 use Prim.Native.Nat.{ℕ, ◌-◌, ◌≤◌, ◌<◌}
-use native.Mathlib.Omega.{arith}
-use mathlib.Core.Path.{◌≡◌, ◌∙◌}
+use mathlib.Core.Path.{◌≡◌}
 use lib.ListN.{length}
-use borrow.Author.Rules.{rules}
 use Rattle.engine_flags.specs.Flags.{Waits}
-use Rattle.engine_flags.proofs.Flags.{wait_more}
 use Rattle.engine_flags.proofs.wake_nodes.Given as goal
 
 abbrev pub invariant-loop-i : goal.invariant-loop-i

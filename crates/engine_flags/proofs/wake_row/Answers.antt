@@ -1,9 +1,6 @@
-use Prim.Native.Nat.{◌+◌}
-use mathlib.Core.Path.{◌≡◌, sym, ap, ◌∙◌}
 use native.Mathlib.Omega.{arith}
-use borrow.Author.Rules.{rules}
 use Rattle.graph_tables.specs.declared.Table.TheVariants.{Methods, Flow}
-use Rattle.engine_flags.proofs.Flags.{woken_none, leads_inside}
+use Rattle.engine_flags.proofs.Flags.{leads_inside}
 use Rattle.engine_flags.proofs.wake_row.Goals as goal
 
 pub wake-requires : goal.wake-requires

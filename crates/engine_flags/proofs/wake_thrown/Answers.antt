@@ -1,8 +1,4 @@
-use Prim.Native.Nat.{ℕ, ◌-◌, ◌<◌}
-use native.Mathlib.Omega.{arith}
-use borrow.Author.Rules.{rules}
-use Rattle.engine_flags.specs.Flags.{Woken, LeavesWait}
-use Rattle.engine_flags.proofs.Flags.{woken_none, woken_more, still_able, leaves_more, no_handlers}
+use Rattle.engine_flags.proofs.Flags.{woken_more, still_able, leaves_more, no_handlers}
 use Rattle.engine_flags.proofs.wake_thrown.Goals as goal
 
 pub returns-then-t-eq0 : goal.returns-then-t-eq0

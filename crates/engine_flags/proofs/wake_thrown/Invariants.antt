@@ -1,8 +1,5 @@
 use Prim.Native.Nat.{ℕ, ◌-◌, ◌<◌}
-use native.Mathlib.Omega.{arith}
-use borrow.Author.Rules.{rules}
 use Rattle.engine_flags.specs.Flags.{Woken, LeavesWait}
-use Rattle.engine_flags.proofs.Flags.{woken_none, woken_more, still_able, leaves_more, no_handlers}
 use Rattle.engine_flags.proofs.wake_thrown.Given as goal
 
 abbrev pub invariant-loop-e : goal.invariant-loop-e

@@ -1,6 +1,5 @@
 use mathlib.Core.Path.{◌≡◌, sym, ◌∙◌}
 use mathlib.Core.Bool.{true, false}
-use borrow.Author.Rules.{rules}
 use Rattle.sheet.specs.Under.{effect_under}
 use Rattle.engine_lower.specs.Lower.{effect_to}
 use Rattle.engine_lower.proofs.effect_to.Goals as goal

@@ -1,6 +1,5 @@
 use mathlib.Core.Path.{◌≡◌, sym, ap, ◌∙◌}
 use mathlib.Core.Bool.{true, false}
-use borrow.Author.Rules.{rules}
 use Rattle.effect.specs.Whole.{stock_at_most_of}
 use Rattle.sheet.specs.Read.{stock_at, marked}
 use Rattle.sheet.specs.Under.{stock_under}

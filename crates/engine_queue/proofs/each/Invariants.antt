@@ -1,8 +1,5 @@
 use Prim.Native.Nat.{◌-◌, ◌≤◌}
-use native.Mathlib.Omega.{arith}
-use borrow.Author.Rules.{rules}
 use Rattle.engine_queue.specs.Queue.{StretchMoved}
-use Rattle.engine_queue.proofs.Moves.{stretch_none, stretch_more, ready_long, wide_long}
 use Rattle.engine_queue.proofs.each.Given as goal
 
 abbrev pub invariant-loop-j : goal.invariant-loop-j

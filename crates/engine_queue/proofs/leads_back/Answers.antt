@@ -1,9 +1,6 @@
-use Prim.Native.Nat.{ℕ, ◌-◌, ◌+◌, ◌≤◌, ◌<◌}
-use mathlib.Core.Path.{◌≡◌, subst, sym, ap, ◌∙◌}
-use mathlib.Core.Bool.{true≢false}
+use mathlib.Core.Path.{◌≡◌, ap, ◌∙◌}
 use native.Mathlib.Decide.{dec_lt}
 use native.Mathlib.Omega.{arith}
-use borrow.Author.Rules.{rules}
 use Rattle.graph_tables.specs.Fields.{flow_to}
 use Rattle.engine_queue.proofs.leads_back.Goals as goal
 

@@ -1,9 +1,5 @@
-use Prim.Native.Nat.{ℕ, ◌-◌, ◌+◌, ◌≤◌, ◌<◌}
-use mathlib.Core.Path.{◌≡◌, subst, sym, ap, ◌∙◌}
-use mathlib.Core.Bool.{true≢false}
-use native.Mathlib.Decide.{dec_lt}
-use native.Mathlib.Omega.{arith}
-use borrow.Author.Rules.{rules}
+use Prim.Native.Nat.{ℕ, ◌-◌, ◌≤◌, ◌<◌}
+use mathlib.Core.Path.{◌≡◌}
 use Rattle.graph_tables.specs.Fields.{flow_to}
 use Rattle.engine_queue.proofs.leads_back.Given as goal
 

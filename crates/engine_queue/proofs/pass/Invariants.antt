@@ -1,10 +1,5 @@
 use Prim.Native.Nat.{◌-◌}
-use native.Mathlib.Omega.{arith}
-use borrow.Author.Rules.{rules}
-use Rattle.rule_ask.proofs.Turned.{turned_inside}
-use Rattle.rule_ready.proofs.Inside.{limit}
 use Rattle.engine_queue.specs.Queue.{Passing}
-use Rattle.engine_queue.proofs.Moves.{passing_none, passing_more, passing_on, passing_all, ready_long, wide_long}
 use Rattle.engine_queue.proofs.pass.Given as goal
 
 abbrev pub invariant-loop-k : goal.invariant-loop-k

@@ -1,5 +1,4 @@
-use borrow.Author.Rules.{rules}
-use Rattle.engine_queue.proofs.Moves.{able, spread_kept, round_done, ready_long, wide_long}
+use Rattle.engine_queue.proofs.Moves.{spread_kept, round_done}
 use Rattle.engine_queue.proofs.round.Goals as goal
 
 pub pass-requires : goal.pass-requires

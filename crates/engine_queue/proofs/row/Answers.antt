@@ -1,4 +1,3 @@
-use borrow.Author.Rules.{rules}
 use Rattle.engine_queue.proofs.Moves.{able, row_true, row_false}
 use Rattle.engine_queue.proofs.row.Goals as goal
 

@@ -1,9 +1,5 @@
-use mathlib.Core.Path.{sym, ap, ◌∙◌}
-use lib.ListN.{replicate}
-use borrow.Author.Rules.{rules}
 use Rattle.engine_lower.proofs.Good.{height}
 use Rattle.engine_queue.specs.Queue.{Queue}
-use Rattle.engine_queue.proofs.Moves.{all_wait, quiet_settled, ready_long}
 use Rattle.engine_queue.proofs.settle.Given as goal
 
 abbrev pub invariant-loop-t : goal.invariant-loop-t

@@ -1,5 +1,4 @@
 use native.Mathlib.Omega.{arith}
-use borrow.Author.Rules.{rules}
 use Rattle.rule_ready.proofs.Inside.{limit}
 use Rattle.engine_queue.proofs.Moves.{visit_wrote, visit_idle}
 use Rattle.engine_queue.proofs.visit.Goals as goal

@@ -1,6 +1,4 @@
-use mathlib.Core.Path.{◌≡◌}
 use native.Mathlib.Omega.{arith}
-use borrow.Author.Rules.{rules}
 use Rattle.graph_tables.specs.declared.Table.TheVariants.{Flow}
 use Rattle.words.proofs.Tests.{and_l}
 use Rattle.graph_rows.proofs.Stretches.{to_within}

@@ -1,5 +1,4 @@
 use mathlib.Core.Path.{◌∙◌}
-use borrow.Author.Rules.{rules}
 use Rattle.graph_tables.specs.declared.Table.TheVariants.{Flow}
 use Rattle.graph_rows.proofs.Stretches.{to_within}
 use Rattle.rule_ask.specs.Walk.{after_walk}

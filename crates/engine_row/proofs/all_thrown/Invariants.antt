@@ -1,9 +1,7 @@
 use Prim.Native.Nat.{◌-◌}
-use borrow.Author.Rules.{rules}
 use Rattle.rule_ask.specs.Walk.{thrown_walk}
 use Rattle.engine_row.specs.Lowers.{sheet_of, lowers}
-use Rattle.engine_row.proofs.Turn.{Turning, turning_start, turning_more, turning_end}
-use Rattle.rule_ready.proofs.Inside.{still_ready}
+use Rattle.engine_row.proofs.Turn.{Turning}
 use Rattle.engine_row.proofs.all_thrown.Given as goal
 
 abbrev pub invariant-loop-e : goal.invariant-loop-e

@@ -1,8 +1,7 @@
 use mathlib.Core.Path.{◌≡◌, refl, sym, ap, ◌∙◌}
-use mathlib.Core.Bool.{Bool, true, false, ◌||◌}
+use mathlib.Core.Bool.{◌||◌, Bool, true, false}
 use mathlib.Core.List.{List}
 use Prim.Native.Nat.{ℕ}
-use borrow.Author.Rules.{rules}
 use Rattle.effect.specs.declared.Effect.{Effect}
 use Rattle.graph_tables.specs.declared.Table.TheVariants.{Flow}
 use Rattle.graph_tables.specs.Fields.{flow_from, flow_to}

@@ -1,6 +1,5 @@
 use mathlib.Core.Path.{◌≡◌, sym, ◌∙◌}
 use native.Mathlib.Omega.{arith}
-use borrow.Author.Rules.{rules}
 use borrow.Author.Tests.{eq-eqb, ne_eqb}
 use Rattle.graph_tables.specs.Kinds.{return_kind, throw_kind}
 use Rattle.graph_tables.specs.Fields.{node_kind}

@@ -1,5 +1,4 @@
 use mathlib.Core.Path.{◌∙◌}
-use borrow.Author.Rules.{rules}
 use Rattle.graph_tables.specs.declared.Table.TheVariants.{Methods}
 use Rattle.rule_ask.specs.Walk.{entry_walk}
 use Rattle.rule_ready.proofs.Inside.{few_types, node_inside, leads_inside}

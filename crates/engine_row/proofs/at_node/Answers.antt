@@ -1,5 +1,4 @@
 use mathlib.Core.Path.{sym, ap, ◌∙◌}
-use borrow.Author.Rules.{rules}
 use Rattle.sheet.specs.Read.{marked}
 use Rattle.rule_ask.specs.Walk.{node_walk}
 use Rattle.rule_ask.proofs.Quiet.{quiet}

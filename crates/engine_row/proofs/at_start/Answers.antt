@@ -1,5 +1,4 @@
 use mathlib.Core.Path.{◌∙◌}
-use borrow.Author.Rules.{rules}
 use Rattle.rule_ask.specs.Walk.{start_walk}
 use Rattle.rule_ready.proofs.Inside.{limit, few_types, method_inside}
 use Rattle.engine_row.proofs.at_start.Goals as goal

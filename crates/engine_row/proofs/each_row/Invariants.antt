@@ -1,13 +1,9 @@
 use Prim.Native.Nat.{ℕ, ◌-◌}
-use mathlib.Core.Path.{ap, ◌∙◌}
-use native.Mathlib.Omega.{arith}
-use borrow.Author.Rules.{rules}
 use Rattle.graph_rows.specs.Rows.{target_of}
 use Rattle.sheet_layout.specs.Layout.{node_at}
-use Rattle.rule_ask.specs.Walk.{of_effect, rows_walk}
+use Rattle.rule_ask.specs.Walk.{of_effect}
 use Rattle.engine_row.specs.Lowers.{lowers}
-use Rattle.engine_row.proofs.Turn.{Turning, turning_start, turning_more, turning_end}
-use Rattle.rule_ready.proofs.Inside.{few_types, node_inside, leads_inside, still_ready}
+use Rattle.engine_row.proofs.Turn.{Turning}
 use Rattle.engine_row.proofs.each_row.Given as goal
 
 abbrev pub invariant-loop-j : goal.invariant-loop-j

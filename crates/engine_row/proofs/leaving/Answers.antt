@@ -1,6 +1,5 @@
 use mathlib.Core.Path.{sym, ap, ◌∙◌}
 use native.Mathlib.Omega.{arith}
-use borrow.Author.Rules.{rules}
 use Rattle.graph_tables.specs.declared.Table.TheVariants.{Catches}
 use Rattle.graph_rows.specs.Rows.{no_rows}
 use Rattle.graph_rows.proofs.Stretches.{to_within}

@@ -1,5 +1,4 @@
 use mathlib.Core.Bool.{◌||◌}
-use borrow.Author.Rules.{rules}
 use Rattle.engine_row.specs.Lowers.{lowers}
 use Rattle.engine_row.proofs.take_effect.Goals as goal
 

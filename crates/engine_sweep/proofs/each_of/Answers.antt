@@ -1,4 +1,3 @@
-use Prim.Native.Nat.{◌-◌}
 use mathlib.Core.Path.{ap, ◌∙◌}
 use native.Mathlib.Omega.{arith}
 use borrow.Author.Rules.{rules}
@@ -7,7 +6,7 @@ use Rattle.rule_ask.specs.Gives.{turned}
 use Rattle.rule_ask.specs.Walk.{row_walk, table_walk}
 use Rattle.rule_ask.proofs.Turned.{turned_inside}
 use Rattle.engine_row.specs.Lowers.{sheet_of, lowers}
-use Rattle.engine_row.proofs.Turn.{Turning, turning_start, turning_more, turning_all}
+use Rattle.engine_row.proofs.Turn.{turning_start, turning_more, turning_all}
 use Rattle.rule_ready.proofs.Inside.{still_ready}
 use Rattle.engine_sweep.proofs.each_of.Goals as goal
 

@@ -1,14 +1,9 @@
 use Prim.Native.Nat.{◌-◌}
-use mathlib.Core.Path.{ap, ◌∙◌}
-use native.Mathlib.Omega.{arith}
-use borrow.Author.Rules.{rules}
 use Rattle.graph_tables.specs.Rows.{rows_of}
 use Rattle.rule_ask.specs.Gives.{turned}
-use Rattle.rule_ask.specs.Walk.{row_walk, table_walk}
-use Rattle.rule_ask.proofs.Turned.{turned_inside}
+use Rattle.rule_ask.specs.Walk.{row_walk}
 use Rattle.engine_row.specs.Lowers.{sheet_of, lowers}
-use Rattle.engine_row.proofs.Turn.{Turning, turning_start, turning_more, turning_all}
-use Rattle.rule_ready.proofs.Inside.{still_ready}
+use Rattle.engine_row.proofs.Turn.{Turning}
 use Rattle.engine_sweep.proofs.each_of.Given as goal
 
 abbrev pub invariant-loop-k : goal.invariant-loop-k

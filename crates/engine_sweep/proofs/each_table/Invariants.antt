@@ -1,11 +1,8 @@
 use Prim.Native.Nat.{◌-◌}
-use mathlib.Core.Path.{ap, ◌∙◌}
-use borrow.Author.Rules.{rules}
 use Rattle.rule_ask.specs.Gives.{table_at}
-use Rattle.rule_ask.specs.Walk.{table_walk, tables_walk}
+use Rattle.rule_ask.specs.Walk.{table_walk}
 use Rattle.engine_row.specs.Lowers.{sheet_of, lowers}
-use Rattle.engine_row.proofs.Turn.{Turning, turning_start, turning_more, turning_end}
-use Rattle.rule_ready.proofs.Inside.{still_ready}
+use Rattle.engine_row.proofs.Turn.{Turning}
 use Rattle.engine_sweep.proofs.each_table.Given as goal
 
 abbrev pub invariant-loop-i : goal.invariant-loop-i

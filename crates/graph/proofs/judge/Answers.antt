@@ -1,6 +1,5 @@
 use borrow.Author.Tests.{lt-ltb, le-ltb}
 use Rattle.graph.specs.Judge.{judge_in}
-use borrow.Author.Rules.{rules}
 use Rattle.graph.proofs.judge.Goals as goal
 
 pub returns-then-f-lt14 : goal.returns-then-f-lt14

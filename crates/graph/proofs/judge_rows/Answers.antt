@@ -1,6 +1,5 @@
 use mathlib.Core.Path.{sym, ◌∙◌}
 use borrow.Author.Tests.{lt-ltb, le-ltb}
-use borrow.Author.Rules.{rules}
 use Rattle.graph.proofs.Stages.{refused_first, left_to_later, first_sorted}
 use Rattle.graph.proofs.judge_rows.Goals as goal
 

@@ -1,5 +1,4 @@
 use mathlib.Core.Path.{◌≡◌, sym, ap, subst, ◌∙◌}
-use borrow.Author.Rules.{rules}
 use Rattle.sheet_layout.specs.Layout.{Within}
 use Rattle.graph.specs.Judge.{judge_in, judge_of}
 use Rattle.graph.specs.Judgement.{shape_for}

@@ -1,8 +1,5 @@
 use Prim.Native.Nat.{◌≤◌, ◌-◌}
-use mathlib.Core.Path.{refl, sym, ◌∙◌}
-use borrow.Author.Count.{below_more, below_none}
-use borrow.Author.Rules.{rules}
-use Rattle.words.proofs.Lowest.{NoneBelow, scan_found, scan_none}
+use Rattle.words.proofs.Lowest.{NoneBelow}
 use Rattle.graph_refuse.specs.Bad.{uncalled}
 use Rattle.graph.proofs.lowest_uncalled.Given as goal
 

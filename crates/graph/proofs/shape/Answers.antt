@@ -1,5 +1,4 @@
 use mathlib.Core.Path.{sym, ◌∙◌}
-use borrow.Author.Rules.{rules}
 use borrow.Author.Tests.{eq-eqb, ne_eqb}
 use Rattle.graph.specs.Judgement.{shape_for}
 use Rattle.graph.proofs.shape.Goals as goal

@@ -1,6 +1,5 @@
 use mathlib.Core.Path.{sym, ap, ◌∙◌}
 use borrow.Author.Tests.{eq-eqb, ne_eqb}
-use borrow.Author.Rules.{rules}
 use Rattle.graph_tables.specs.declared.Table.TheVariants.{Calls}
 use Rattle.graph_refuse.specs.Bad.{uncalled}
 use Rattle.graph_rows.specs.Rows.{no_rows}

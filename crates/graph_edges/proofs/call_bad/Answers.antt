@@ -1,5 +1,4 @@
 use Rattle.graph_refuse.specs.Bad.{call_bad}
-use borrow.Author.Rules.{rules}
 use Rattle.graph_edges.proofs.call_bad.Goals as goal
 
 pub returns : goal.returns

@@ -1,6 +1,5 @@
 use borrow.Author.Tests.{eq-eqb, ne_eqb}
 use Rattle.graph_refuse.specs.Bad.{above, not_above, call_row}
-use borrow.Author.Rules.{rules}
 use Rattle.graph_edges.proofs.call_not_above.Goals as goal
 
 pub returns-then-k-eq0 : goal.returns-then-k-eq0

@@ -1,5 +1,4 @@
 use Rattle.graph_refuse.specs.Bad.{flow_bad}
-use borrow.Author.Rules.{rules}
 use Rattle.graph_edges.proofs.flow_bad.Goals as goal
 
 pub returns : goal.returns

@@ -1,6 +1,5 @@
 use mathlib.Core.Path.{sym, ◌∙◌}
 use borrow.Author.Tests.{ne_eqb}
-use borrow.Author.Rules.{rules}
 use Rattle.graph_refuse.specs.Bad.{throws_other}
 use Rattle.graph_edges.proofs.throws_other.Goals as goal
 

@@ -1,5 +1,4 @@
 use mathlib.Core.Path.{sym, ◌∙◌}
-use borrow.Author.Rules.{rules}
 use Rattle.graph_nodes.proofs.Cases.{does_outside, does_grant, does_draw, does_plain, own_plain, own_grant, own_draw}
 use Rattle.graph_nodes.proofs.own_step.Goals as goal
 

@@ -1,5 +1,4 @@
 use borrow.Author.Tests.{lt-ltb, le-ltb}
-use borrow.Author.Rules.{rules}
 use Rattle.graph_nodes.proofs.rights_of.Goals as goal
 
 pub returns-then-k-t : goal.returns-then-k-t

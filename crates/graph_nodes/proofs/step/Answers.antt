@@ -1,5 +1,4 @@
 use mathlib.Core.Path.{sym, ◌∙◌}
-use borrow.Author.Rules.{rules}
 use Rattle.graph_nodes.proofs.Cases.{does_outside, does_grant, does_draw, does_plain, step_plain, step_grant, step_draw}
 use Rattle.graph_nodes.proofs.step.Goals as goal
 

@@ -1,5 +1,4 @@
 use Rattle.graph_refuse.specs.Bad.{count_bad}
-use borrow.Author.Rules.{rules}
 use Rattle.graph_refuse.proofs.count_bad.Goals as goal
 
 pub returns : goal.returns

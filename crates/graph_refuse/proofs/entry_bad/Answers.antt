@@ -1,5 +1,4 @@
 use Rattle.graph_refuse.specs.Bad.{entry_bad}
-use borrow.Author.Rules.{rules}
 use Rattle.graph_refuse.proofs.entry_bad.Goals as goal
 
 pub returns : goal.returns

@@ -3,7 +3,6 @@ use mathlib.Core.Path.{◌≡◌, sym}
 use mathlib.Core.List.{[], ◌∷◌}
 use lib.ListN.{get_or-eq_default}
 use Rattle.graph_refuse.specs.Bad.{most}
-use borrow.Author.Rules.{rules}
 use Rattle.graph_refuse.proofs.most.Goals as goal
 
 past : (i : ℕ) → 6 ≤ i → 0 ≡ most i

@@ -1,6 +1,5 @@
 use mathlib.Core.Path.{refl}
 use Rattle.graph_refuse.specs.Bad.{out_of_range}
-use borrow.Author.Rules.{rules}
 use Rattle.graph_refuse.proofs.out_of_range.Goals as goal
 
 pub returns : goal.returns

@@ -2,9 +2,7 @@ use Prim.Native.Nat.{ℕ}
 use mathlib.Core.Path.{◌≡◌, refl, sym, ap, ◌∙◌}
 use mathlib.Core.Bool.{Bool, not}
 use mathlib.Core.List.{List}
-use borrow.Author.Rules.{rules}
 use Rattle.graph_tables.specs.declared.Tables.{Tables}
-use Rattle.graph_tables.specs.Family.{nearest}
 use Rattle.graph_tables.proofs.Family.{nearest_here, nearest_up, nearest_last}
 use Rattle.graph_rows.specs.declared.Stretch.{Stretch}
 use Rattle.graph_rows.specs.Rows.{own_of, no_rows, has_own}

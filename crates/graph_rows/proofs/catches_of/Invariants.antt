@@ -1,13 +1,6 @@
-use Prim.Native.Nat.{ℕ}
-use mathlib.Core.Path.{◌≡◌, refl, sym, ap, ◌∙◌}
-use mathlib.Core.Bool.{Bool, not}
-use mathlib.Core.List.{List}
-use borrow.Author.Rules.{rules}
-use Rattle.graph_tables.specs.declared.Tables.{Tables}
+use mathlib.Core.Path.{◌≡◌}
 use Rattle.graph_tables.specs.Family.{nearest}
-use Rattle.graph_tables.proofs.Family.{nearest_here, nearest_up, nearest_last}
-use Rattle.graph_rows.specs.declared.Stretch.{Stretch}
-use Rattle.graph_rows.specs.Rows.{own_of, no_rows, has_own}
+use Rattle.graph_rows.specs.Rows.{own_of, has_own}
 use Rattle.graph_rows.proofs.catches_of.Given as goal
 
 abbrev pub invariant-loop-t : goal.invariant-loop-t

@@ -1,11 +1,7 @@
-use Prim.Native.Nat.{◌≤◌, ◌<◌, ◌-◌}
-use mathlib.Core.Path.{◌≡◌}
-use mathlib.Core.Bool.{true}
 use native.Mathlib.Nat.{lt_irrefl}
 use borrow.Author.Count.{below_none}
 use borrow.Author.Tests.{le-leb}
 use borrow.Author.Rules.{rules}
-use Rattle.words.proofs.Lowest.{NoneBelow}
 use Rattle.graph_tables.specs.Rows.{rows_of}
 use Rattle.graph_rows.specs.Rows.{key_of, first_row}
 use Rattle.graph_rows.proofs.Halve.{AtLeast, less_below, closed}

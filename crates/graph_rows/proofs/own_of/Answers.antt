@@ -1,4 +1,3 @@
-use borrow.Author.Rules.{rules}
 use Rattle.graph_rows.proofs.own_of.Goals as goal
 
 pub returns : goal.returns

@@ -1,11 +1,8 @@
-use Prim.Native.Nat.{◌≤◌, ◌-◌}
-use mathlib.Core.Path.{sym, ◌∙◌}
 use native.Mathlib.Omega.{arith}
 use borrow.Author.Count.{below_more}
 use borrow.Author.Tests.{le-leb, lt-leb}
 use borrow.Author.Rules.{rules}
-use Rattle.words.proofs.Lowest.{NoneBelow, scan_found, scan_none}
-use Rattle.graph_tables.specs.Rows.{rows_of}
+use Rattle.words.proofs.Lowest.{scan_found, scan_none}
 use Rattle.graph_rows.specs.Rows.{key_of, first_row}
 use Rattle.graph_rows.proofs.Halve.{AtLeast}
 use Rattle.graph_rows.proofs.Stretches.{first_lowest}

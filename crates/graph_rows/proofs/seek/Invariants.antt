@@ -1,14 +1,7 @@
 use Prim.Native.Nat.{◌≤◌, ◌-◌}
-use mathlib.Core.Path.{sym, ◌∙◌}
-use native.Mathlib.Omega.{arith}
-use borrow.Author.Count.{below_more}
-use borrow.Author.Tests.{le-leb, lt-leb}
-use borrow.Author.Rules.{rules}
-use Rattle.words.proofs.Lowest.{NoneBelow, scan_found, scan_none}
-use Rattle.graph_tables.specs.Rows.{rows_of}
-use Rattle.graph_rows.specs.Rows.{key_of, first_row}
+use Rattle.words.proofs.Lowest.{NoneBelow}
+use Rattle.graph_rows.specs.Rows.{key_of}
 use Rattle.graph_rows.proofs.Halve.{AtLeast}
-use Rattle.graph_rows.proofs.Stretches.{first_lowest}
 use Rattle.graph_rows.proofs.seek.Given as goal
 
 abbrev pub invariant-loop-k : goal.invariant-loop-k

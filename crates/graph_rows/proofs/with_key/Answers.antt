@@ -1,4 +1,3 @@
-use borrow.Author.Rules.{rules}
 use Rattle.graph_rows.specs.Rows.{stretch_of}
 use Rattle.graph_rows.proofs.Stretches.{first_next}
 use Rattle.graph_rows.proofs.with_key.Goals as goal

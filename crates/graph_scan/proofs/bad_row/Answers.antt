@@ -1,4 +1,3 @@
-use borrow.Author.Rules.{rules}
 use Rattle.graph_scan.proofs.bad_row.Goals as goal
 
 pub returns-in-Trailer : goal.returns-in-Trailer

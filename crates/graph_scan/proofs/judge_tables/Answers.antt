@@ -1,5 +1,4 @@
 use Rattle.graph_scan.specs.Scan.{judge_tables}
-use borrow.Author.Rules.{rules}
 use Rattle.graph_scan.proofs.judge_tables.Goals as goal
 
 pub returns : goal.returns

@@ -1,8 +1,7 @@
-use Prim.Native.Nat.{◌≤◌, ◌-◌}
 use mathlib.Core.Path.{sym, ◌∙◌}
 use borrow.Author.Count.{below_more, below_none}
 use borrow.Author.Rules.{rules}
-use Rattle.words.proofs.Lowest.{NoneBelow, scan_found, scan_none}
+use Rattle.words.proofs.Lowest.{scan_found, scan_none}
 use Rattle.graph_scan.specs.Scan.{row_bad}
 use Rattle.graph_scan.proofs.lowest_bad.Goals as goal
 

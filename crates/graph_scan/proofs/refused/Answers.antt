@@ -1,5 +1,4 @@
 use borrow.Author.Tests.{lt-ltb, le-ltb}
-use borrow.Author.Rules.{rules}
 use Rattle.graph_scan.proofs.refused.Goals as goal
 
 pub returns-then-k-rows : goal.returns-then-k-rows

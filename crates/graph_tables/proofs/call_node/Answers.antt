@@ -1,6 +1,5 @@
 use native.Mathlib.Nat.{add-zero}
 use Rattle.graph_tables.specs.Fields.{call_node}
-use borrow.Author.Rules.{rules}
 use Rattle.graph_tables.proofs.call_node.Goals as goal
 
 pub returns : goal.returns

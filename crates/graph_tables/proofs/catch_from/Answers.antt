@@ -1,6 +1,5 @@
 use native.Mathlib.Nat.{add-zero}
 use Rattle.graph_tables.specs.Fields.{catch_from}
-use borrow.Author.Rules.{rules}
 use Rattle.graph_tables.proofs.catch_from.Goals as goal
 
 pub returns : goal.returns

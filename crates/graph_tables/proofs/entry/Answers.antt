@@ -1,6 +1,5 @@
 use native.Mathlib.Nat.{add-zero, zero-add}
 use Rattle.graph_tables.specs.Fields.{entry_of}
-use borrow.Author.Rules.{rules}
 use Rattle.graph_tables.proofs.entry.Goals as goal
 
 pub returns : goal.returns

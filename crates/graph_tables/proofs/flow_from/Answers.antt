@@ -1,6 +1,5 @@
 use native.Mathlib.Nat.{add-zero}
 use Rattle.graph_tables.specs.Fields.{flow_from}
-use borrow.Author.Rules.{rules}
 use Rattle.graph_tables.proofs.flow_from.Goals as goal
 
 pub returns : goal.returns

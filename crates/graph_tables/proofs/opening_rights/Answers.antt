@@ -1,6 +1,5 @@
 use native.Mathlib.Nat.{add-zero}
 use Rattle.graph_tables.specs.Fields.{opening_rights}
-use borrow.Author.Rules.{rules}
 use Rattle.graph_tables.proofs.opening_rights.Goals as goal
 
 pub returns : goal.returns

@@ -1,4 +1,3 @@
-use borrow.Author.Rules.{rules}
 use Rattle.graph_tables.proofs.word_of.Goals as goal
 
 pub returns : goal.returns

@@ -1,5 +1,4 @@
 use Rattle.graph_tables.specs.Trailer.{tables_of}
-use borrow.Author.Rules.{rules}
 use Rattle.graph_trailer.proofs.read.Goals as goal
 
 pub returns : goal.returns

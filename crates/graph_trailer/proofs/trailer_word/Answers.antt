@@ -1,7 +1,6 @@
 use Rattle.graph_tables.specs.Trailer.{trailer}
 use Rattle.graph_tables.proofs.Counts.{trailer_past}
 use mathlib.Core.Path.{sym}
-use borrow.Author.Rules.{rules}
 use Rattle.graph_trailer.proofs.trailer_word.Goals as goal
 
 pub returns-then-i-lt7 : goal.returns-then-i-lt7

@@ -1,8 +1,7 @@
-use borrow.Author.Rules.{rules}
 use native.Mathlib.Omega.{arith}
 use Prim.Native.Nat.{ℕ}
-use mathlib.Core.Path.{◌≡◌, sym, ap, ◌∙◌}
-use mathlib.Core.Bool.{Bool, ◌||◌}
+use mathlib.Core.Path.{sym, ap, ◌∙◌}
+use mathlib.Core.Bool.{◌||◌, Bool}
 use lib.Dec.{eqb}
 use Rattle.words_digits.specs.Text.{joined}
 use Rattle.words_digits.proofs.Join.{retext, ◌then◌, rest}

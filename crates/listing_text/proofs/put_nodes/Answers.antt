@@ -1,10 +1,9 @@
-use Prim.Native.Nat.{◌-◌, ◌≤◌, ◌<◌}
+use Prim.Native.Nat.{◌<◌}
 use mathlib.Core.Path.{◌≡◌, ap}
 use native.Mathlib.Omega.{arith}
 use borrow.Author.Rules.{rules}
 use Rattle.words_digits.specs.Text.{joined}
 use Rattle.listing_first.specs.Listing.{node_lines}
-use Rattle.words_digits.specs.Puts.{Puts}
 use Rattle.words_digits.proofs.Join.{retext, start, turn, room}
 use Rattle.listing_text.proofs.put_nodes.Goals as goal
 

@@ -1,11 +1,7 @@
-use Prim.Native.Nat.{◌-◌, ◌≤◌, ◌<◌}
-use mathlib.Core.Path.{◌≡◌, ap}
-use native.Mathlib.Omega.{arith}
-use borrow.Author.Rules.{rules}
+use Prim.Native.Nat.{◌-◌, ◌≤◌}
 use Rattle.words_digits.specs.Text.{joined}
 use Rattle.listing_first.specs.Listing.{node_lines}
 use Rattle.words_digits.specs.Puts.{Puts}
-use Rattle.words_digits.proofs.Join.{retext, start, turn, room}
 use Rattle.listing_text.proofs.put_nodes.Given as goal
 
 abbrev pub invariant-loop-n : goal.invariant-loop-n

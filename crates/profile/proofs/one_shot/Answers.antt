@@ -1,4 +1,3 @@
-use borrow.Author.Rules.{rules}
 use Rattle.profile.proofs.OneShot.{safe}
 use Rattle.profile.proofs.one_shot.Goals as goal
 

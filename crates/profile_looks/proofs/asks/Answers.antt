@@ -1,4 +1,3 @@
-use borrow.Author.Rules.{rules}
 use Rattle.profile_looks.specs.Looks.{asks}
 use Rattle.profile_looks.proofs.asks.Goals as goal
 

@@ -1,6 +1,5 @@
 use Prim.Native.Nat.{min}
 use mathlib.Core.Path.{◌∙◌}
-use borrow.Author.Rules.{rules}
 use Rattle.profile_looks.proofs.breaking.Goals as goal
 
 pub returns-in-OneShot : goal.returns-in-OneShot

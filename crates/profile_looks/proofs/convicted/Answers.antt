@@ -1,5 +1,4 @@
 use mathlib.Core.Path.{sym, ◌∙◌}
-use borrow.Author.Rules.{rules}
 use Rattle.profile_looks.specs.Looks.{convicted}
 use Rattle.profile_looks.proofs.convicted.Goals as goal
 

@@ -1,4 +1,3 @@
-use borrow.Author.Rules.{rules}
 use Rattle.profile_looks.proofs.flow_convicts.Goals as goal
 
 pub returns : goal.returns

@@ -1,4 +1,3 @@
-use borrow.Author.Rules.{rules}
 use Rattle.profile_looks.proofs.grant_convicts.Goals as goal
 
 pub returns : goal.returns

@@ -1,4 +1,3 @@
-use borrow.Author.Rules.{rules}
 use Rattle.profile_looks.specs.Looks.{is_draw}
 use Rattle.profile_looks.proofs.is_draw.Goals as goal
 

@@ -1,11 +1,7 @@
 use Prim.Native.Nat.{◌≤◌, ◌-◌}
-use mathlib.Core.Path.{◌≡◌, refl, ap, ◌∙◌}
-use native.Mathlib.Omega.{arith}
-use borrow.Author.Rules.{rules}
-use Rattle.words.specs.Turn.{in_turn}
+use mathlib.Core.Path.{◌≡◌}
 use Rattle.words.specs.Least.{least_of}
-use Rattle.words.proofs.Least.{least_more}
-use Rattle.profile_looks.specs.Looks.{convicted, lowest_of}
+use Rattle.profile_looks.specs.Looks.{convicted}
 use Rattle.profile_looks.proofs.lowest.Given as goal
 
 abbrev pub invariant-loop-k : goal.invariant-loop-k

@@ -1,4 +1,3 @@
-use borrow.Author.Rules.{rules}
 use Rattle.profile_looks.proofs.node.Goals as goal
 
 pub returns-in-Flow : goal.returns-in-Flow

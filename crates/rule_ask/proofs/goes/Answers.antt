@@ -1,6 +1,5 @@
 use mathlib.Core.Path.{ap, ◌∙◌}
 use mathlib.Core.Bool.{◌&&◌}
-use borrow.Author.Rules.{rules}
 use lib.Dec.{leb}
 use Rattle.graph_tables.specs.Kinds.{draw_kind}
 use Rattle.sheet.specs.Read.{marked}

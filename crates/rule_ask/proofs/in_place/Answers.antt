@@ -1,6 +1,5 @@
 use Prim.Native.Nat.{◌<◌}
 use borrow.Author.Tests.{ltb-true}
-use borrow.Author.Rules.{rules}
 use mathlib.Core.Bool.{◌&&◌}
 use Rattle.words.proofs.Tests.{and_l, and_r}
 use Rattle.rule_ask.proofs.in_place.Goals as goal

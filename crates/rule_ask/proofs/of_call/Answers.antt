@@ -1,5 +1,4 @@
 use mathlib.Core.Path.{ap, ◌∙◌}
-use borrow.Author.Rules.{rules}
 use mathlib.Core.Bool.{◌&&◌}
 use Rattle.graph_tables.specs.Fields.{node_count}
 use Rattle.rule_rounds.specs.Rounds.{rounds_of}

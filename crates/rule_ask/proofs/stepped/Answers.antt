@@ -1,7 +1,6 @@
 use mathlib.Core.Path.{sym, ◌∙◌}
 use lib.Dec.{eqb}
 use borrow.Author.Tests.{ltb-true}
-use borrow.Author.Rules.{rules}
 use Rattle.words.proofs.Tests.{and_l, and_r}
 use Rattle.effect.specs.Six.{effect_of}
 use Rattle.effect.specs.Whole.{one_if, then_of}

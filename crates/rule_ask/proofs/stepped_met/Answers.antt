@@ -1,6 +1,5 @@
 use mathlib.Core.Path.{sym, ap, ◌∙◌}
 use lib.Dec.{eqb}
-use borrow.Author.Rules.{rules}
 use Rattle.effect.specs.Six.{effect_of}
 use Rattle.effect.specs.Whole.{one_if, then_of}
 use Rattle.graph_nodes.proofs.Cases.{own_step_means}

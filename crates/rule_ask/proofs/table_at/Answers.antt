@@ -1,10 +1,8 @@
 use Prim.Native.Nat.{ℕ, zero, suc, ◌≤◌}
 use mathlib.Core.Path.{◌≡◌, refl}
 use native.Mathlib.Omega.{arith}
-use borrow.Author.Rules.{rules}
 use Rattle.graph_tables.specs.declared.Table.TheVariants.{Calls}
 use Rattle.rule_ask.specs.Gives.{table_at}
-use Rattle.rule_ask.proofs.table_at.Goals as goal
 
 last : (i : ℕ) → 3 ≤ i → Calls ≡ table_at i
 last zero h = absurd (omega arith)

@@ -1,5 +1,4 @@
 use mathlib.Core.Path.{ap, ◌∙◌}
-use borrow.Author.Rules.{rules}
 use Rattle.effect.specs.Whole.{then_of}
 use Rattle.sheet.specs.Read.{effect_at}
 use Rattle.rule_ask.specs.Gives.{thrown_in}

@@ -1,4 +1,3 @@
-use borrow.Author.Rules.{rules}
 use Rattle.rule_rounds.proofs.Takes.{two_more, one_more}
 use Rattle.rule_rounds.proofs.digit.Goals as goal
 

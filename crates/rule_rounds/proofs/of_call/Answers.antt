@@ -1,5 +1,4 @@
 use mathlib.Core.Path.{ap, sym, ◌∙◌}
-use borrow.Author.Rules.{rules}
 use Rattle.rule_rounds.specs.Rounds.{rounds_of}
 use Rattle.rule_rounds.proofs.Cases.{never_returns_lem}
 use Rattle.rule_rounds.proofs.of_call.Goals as goal

@@ -1,7 +1,6 @@
-use Prim.Native.Nat.{◌-◌, ◌≤◌}
 use native.Mathlib.Omega.{arith}
 use Rattle.rule_rounds.proofs.Steps.{top_word, top_one}
-use Rattle.rule_rounds.proofs.Takes.{OnTheWay, at_top, digit_read, all_read, way_few}
+use Rattle.rule_rounds.proofs.Takes.{at_top, digit_read, all_read, way_few}
 use Rattle.rule_rounds.proofs.power.Goals as goal
 
 pub overflow_sub-top : goal.overflow_sub-top

@@ -1,7 +1,5 @@
 use Prim.Native.Nat.{◌-◌, ◌≤◌}
-use native.Mathlib.Omega.{arith}
-use Rattle.rule_rounds.proofs.Steps.{top_word, top_one}
-use Rattle.rule_rounds.proofs.Takes.{OnTheWay, at_top, digit_read, all_read, way_few}
+use Rattle.rule_rounds.proofs.Takes.{OnTheWay}
 use Rattle.rule_rounds.proofs.power.Given as goal
 
 abbrev pub invariant-loop-i : goal.invariant-loop-i

@@ -1,5 +1,4 @@
 use Prim.Native.Nat.{◌-◌}
-use borrow.Author.Rules.{rules}
 use native.Mathlib.Omega.{arith}
 use Rattle.effect.proofs.Means.{effect_words}
 use Rattle.rule_rounds.proofs.Takes.{few_taken, chain_few, more_taken, with_few}

@@ -1,6 +1,5 @@
 use mathlib.Core.Path.{◌≡◌, ap, ◌∙◌}
 use mathlib.Core.Bool.{true, false}
-use borrow.Author.Rules.{rules}
 use Rattle.graph_tables.specs.declared.Table.TheVariants.{Flow}
 use Rattle.rule_ask.specs.Walk.{rows_walk, after_walk}
 use Rattle.rule_test.specs.Keys.{lessened}

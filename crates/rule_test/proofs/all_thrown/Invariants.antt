@@ -1,9 +1,6 @@
 use Prim.Native.Nat.{◌≤◌, ◌-◌}
-use mathlib.Core.Path.{◌≡◌, refl, ap, ◌∙◌}
-use native.Mathlib.Omega.{arith}
-use borrow.Author.Rules.{rules}
+use mathlib.Core.Path.{◌≡◌}
 use Rattle.words.specs.Turn.{in_turn}
-use Rattle.words.proofs.Turn.{turn_next}
 use Rattle.rule_ask.specs.Walk.{thrown_walk}
 use Rattle.rule_test.specs.Keys.{lessened}
 use Rattle.rule_test.proofs.all_thrown.Given as goal

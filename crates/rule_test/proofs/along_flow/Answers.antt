@@ -1,6 +1,5 @@
 use mathlib.Core.Path.{◌≡◌, sym, ap, ◌∙◌}
 use mathlib.Core.Bool.{true, false}
-use borrow.Author.Rules.{rules}
 use Rattle.graph_tables.specs.Fields.{flow_from}
 use Rattle.sheet_layout.specs.Layout.{node_at}
 use Rattle.rule_ask.specs.Gives.{goes_in, stepped_in}

@@ -1,6 +1,5 @@
 use mathlib.Core.Path.{◌≡◌, sym, ap, ◌∙◌}
 use mathlib.Core.Bool.{true, false}
-use borrow.Author.Rules.{rules}
 use Rattle.sheet_layout.specs.Layout.{node_at}
 use Rattle.sheet.specs.Read.{marked}
 use Rattle.rule_ask.specs.Walk.{end_walk, node_walk}

@@ -1,5 +1,4 @@
 use mathlib.Core.Path.{◌∙◌}
-use borrow.Author.Rules.{rules}
 use Rattle.rule_ask.specs.Walk.{of_stock, start_walk}
 use Rattle.rule_test.specs.Keys.{lessened}
 use Rattle.rule_test.proofs.at_start.Goals as goal

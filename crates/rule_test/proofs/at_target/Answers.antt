@@ -1,5 +1,4 @@
 use mathlib.Core.Path.{ap, ◌∙◌}
-use borrow.Author.Rules.{rules}
 use Rattle.sheet_layout.specs.Layout.{node_at}
 use Rattle.rule_ask.specs.Walk.{of_effect}
 use Rattle.rule_test.specs.Keys.{lessened}

@@ -1,7 +1,6 @@
 use Prim.Native.Nat.{min}
 use mathlib.Core.Path.{◌≡◌, sym, ap, ◌∙◌}
 use mathlib.Core.Bool.{true, false}
-use borrow.Author.Rules.{rules}
 use Rattle.effect.proofs.Failing.{fails_lowest}
 use Rattle.sheet.specs.Read.{marked}
 use Rattle.rule_test.specs.Keys.{key_if, lessened}

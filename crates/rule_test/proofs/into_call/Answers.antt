@@ -1,6 +1,5 @@
 use mathlib.Core.Path.{◌≡◌, sym, ap, ◌∙◌}
 use mathlib.Core.Bool.{true, false}
-use borrow.Author.Rules.{rules}
 use Rattle.effect.specs.Whole.{apply_of}
 use Rattle.graph_tables.specs.Fields.{node_method}
 use Rattle.sheet_layout.specs.Layout.{method_at}

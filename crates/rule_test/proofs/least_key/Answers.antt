@@ -1,6 +1,5 @@
 use mathlib.Core.Path.{ap, ◌∙◌}
 use mathlib.Core.Bool.{false}
-use borrow.Author.Rules.{rules}
 use Rattle.rule_ask.specs.Walk.{tables_walk, sheet_walk}
 use Rattle.rule_test.specs.Keys.{lessened, least_key}
 use Rattle.rule_test.proofs.least_key.Goals as goal

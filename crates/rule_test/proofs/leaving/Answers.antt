@@ -1,7 +1,6 @@
 use Prim.Native.Nat.{◌+◌}
 use mathlib.Core.Path.{◌≡◌, sym, ap, ◌∙◌}
 use mathlib.Core.Bool.{true, false}
-use borrow.Author.Rules.{rules}
 use Rattle.graph_tables.specs.declared.Table.TheVariants.{Catches}
 use Rattle.graph_rows.specs.Rows.{no_rows, uncaught_of}
 use Rattle.sheet_layout.specs.Layout.{exit_at}

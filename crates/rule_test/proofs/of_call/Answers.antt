@@ -1,9 +1,7 @@
-use mathlib.Core.Path.{◌≡◌, sym, ap, ◌∙◌}
+use mathlib.Core.Path.{◌≡◌, ap, ◌∙◌}
 use mathlib.Core.Bool.{true, false}
-use borrow.Author.Rules.{rules}
 use Rattle.words.specs.Turn.{in_turn}
-use Rattle.rule_ask.specs.declared.Gives.{Gives}
-use Rattle.rule_ask.specs.Walk.{after_walk, into_walk, thrown_walk, called_walk}
+use Rattle.rule_ask.specs.Walk.{into_walk, thrown_walk, called_walk}
 use Rattle.rule_test.specs.Keys.{lessened}
 use Rattle.rule_test.proofs.of_call.Goals as goal
 

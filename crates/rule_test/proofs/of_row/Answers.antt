@@ -1,4 +1,3 @@
-use borrow.Author.Rules.{rules}
 use Rattle.rule_test.proofs.of_row.Goals as goal
 
 pub returns-in-Trailer : goal.returns-in-Trailer

@@ -1,12 +1,9 @@
 use Prim.Native.Nat.{◌-◌, ◌≤◌}
-use mathlib.Core.Path.{◌≡◌, refl, ap, ◌∙◌}
-use native.Mathlib.Omega.{arith}
-use borrow.Author.Rules.{rules}
+use mathlib.Core.Path.{◌≡◌}
 use Rattle.words.specs.Turn.{in_turn}
-use Rattle.words.proofs.Turn.{turn_more}
 use Rattle.graph_rows.specs.Rows.{target_of}
 use Rattle.sheet_layout.specs.Layout.{node_at}
-use Rattle.rule_ask.specs.Walk.{of_effect, rows_walk}
+use Rattle.rule_ask.specs.Walk.{of_effect}
 use Rattle.rule_test.specs.Keys.{lessened}
 use Rattle.rule_test.proofs.of_rows.Given as goal
 

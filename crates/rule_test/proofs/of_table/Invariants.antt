@@ -1,10 +1,7 @@
 use Prim.Native.Nat.{◌≤◌, ◌-◌}
-use mathlib.Core.Path.{◌≡◌, refl, ap, ◌∙◌}
-use native.Mathlib.Omega.{arith}
-use borrow.Author.Rules.{rules}
+use mathlib.Core.Path.{◌≡◌}
 use Rattle.words.specs.Turn.{in_turn}
-use Rattle.words.proofs.Turn.{turn_next}
-use Rattle.rule_ask.specs.Walk.{row_walk, table_walk}
+use Rattle.rule_ask.specs.Walk.{row_walk}
 use Rattle.rule_test.specs.Keys.{lessened}
 use Rattle.rule_test.proofs.of_table.Given as goal
 

@@ -1,8 +1,7 @@
-use Prim.Native.Nat.{ℕ, ◌≤◌, ◌-◌}
+use Prim.Native.Nat.{ℕ}
 use mathlib.Core.Path.{◌≡◌, refl, ap, ◌∙◌}
 use native.Mathlib.Omega.{arith}
 use mathlib.Core.Bool.{false}
-use borrow.Author.Rules.{rules}
 use Rattle.words.specs.Turn.{in_turn}
 use Rattle.words.proofs.Turn.{turn_next}
 use Rattle.rule_ask.specs.Gives.{table_at}

@@ -1,12 +1,9 @@
-use Prim.Native.Nat.{ℕ, ◌≤◌, ◌-◌}
-use mathlib.Core.Path.{◌≡◌, refl, ap, ◌∙◌}
-use native.Mathlib.Omega.{arith}
+use Prim.Native.Nat.{◌≤◌, ◌-◌}
+use mathlib.Core.Path.{◌≡◌}
 use mathlib.Core.Bool.{false}
-use borrow.Author.Rules.{rules}
 use Rattle.words.specs.Turn.{in_turn}
-use Rattle.words.proofs.Turn.{turn_next}
 use Rattle.rule_ask.specs.Gives.{table_at}
-use Rattle.rule_ask.specs.Walk.{table_walk, tables_walk}
+use Rattle.rule_ask.specs.Walk.{table_walk}
 use Rattle.rule_test.specs.Keys.{lessened}
 use Rattle.rule_test.proofs.of_tables.Given as goal
 

@@ -1,8 +1,6 @@
 use Prim.Native.Nat.{◌+◌}
 use mathlib.Core.Path.{◌≡◌, sym, ap, ◌∙◌}
 use mathlib.Core.Bool.{true, false}
-use native.Mathlib.Omega.{arith}
-use borrow.Author.Rules.{rules}
 use Rattle.sheet_layout.specs.Layout.{exit_at}
 use Rattle.sheet.specs.Read.{marked}
 use Rattle.rule_ask.specs.Walk.{leaving_walk, thrown_walk}

@@ -1,7 +1,7 @@
-use Prim.Native.Nat.{ℕ, ◌≤◌, ◌<◌, ◌-◌}
+use Prim.Native.Nat.{ℕ, ◌<◌}
 use mathlib.Core.Path.{◌≡◌, ap, ◌∙◌}
-use mathlib.Core.List.{List, ◌++◌}
-use lib.ListN.{length, drop, set, replicate, length-set}
+use mathlib.Core.List.{List}
+use lib.ListN.{length, set, length-set}
 use borrow.Author.Fill.{fill_none, fill_more}
 use borrow.Author.Rules.{rules}
 use Rattle.sheet.proofs.Fill.{blank_end}

@@ -1,5 +1,4 @@
 use Rattle.sheet.specs.Read.{effect_at}
-use borrow.Author.Rules.{rules}
 use Rattle.sheet.proofs.effect.Goals as goal
 
 pub returns : goal.returns

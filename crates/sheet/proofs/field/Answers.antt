@@ -2,7 +2,6 @@ use Prim.Native.Nat.{◌*◌, ◌≤◌}
 use borrow.Author.Tests.{lt-ltb, le-ltb}
 use native.Mathlib.Nat.{mul-le-mul}
 use native.Mathlib.Omega.{arith}
-use borrow.Author.Rules.{rules}
 use Rattle.sheet.proofs.field.Goals as goal
 
 -- how far into the block it goes

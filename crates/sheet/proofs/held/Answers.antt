@@ -1,6 +1,5 @@
 use Rattle.sheet.specs.Read.{column, stock_at}
 use Rattle.sheet.proofs.Back.{six_there}
-use borrow.Author.Rules.{rules}
 use Rattle.sheet.proofs.held.Goals as goal
 
 pub returns : goal.returns

@@ -1,11 +1,8 @@
-use Prim.Native.Nat.{◌+◌, ◌-◌, ◌*◌, ◌≤◌, ◌<◌}
-use mathlib.Core.Path.{◌≡◌, refl}
-use lib.ListN.{length}
+use Prim.Native.Nat.{◌+◌, ◌*◌, ◌<◌}
+use mathlib.Core.Path.{refl}
 use native.Mathlib.Omega.{arith}
-use Rattle.effect.specs.Six.{six}
 use Rattle.sheet.specs.Read.{sheet_word}
-use Rattle.effect.proofs.Filled.{up_to, one_more, all_read}
-use Rattle.sheet.proofs.Fill.{turns}
+use Rattle.effect.proofs.Filled.{one_more, all_read}
 use borrow.Author.Rules.{rules}
 use Rattle.sheet.proofs.inner_column.Goals as goal
 

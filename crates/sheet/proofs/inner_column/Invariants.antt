@@ -1,12 +1,8 @@
-use Prim.Native.Nat.{◌+◌, ◌-◌, ◌*◌, ◌≤◌, ◌<◌}
-use mathlib.Core.Path.{◌≡◌, refl}
-use lib.ListN.{length}
-use native.Mathlib.Omega.{arith}
+use Prim.Native.Nat.{◌+◌, ◌-◌, ◌*◌, ◌≤◌}
+use mathlib.Core.Path.{◌≡◌}
 use Rattle.effect.specs.Six.{six}
 use Rattle.sheet.specs.Read.{sheet_word}
-use Rattle.effect.proofs.Filled.{up_to, one_more, all_read}
-use Rattle.sheet.proofs.Fill.{turns}
-use borrow.Author.Rules.{rules}
+use Rattle.effect.proofs.Filled.{up_to}
 use Rattle.sheet.proofs.inner_column.Given as goal
 
 abbrev pub invariant-loop-k : goal.invariant-loop-k

@@ -1,10 +1,9 @@
-use Prim.Native.Nat.{◌-◌}
 use mathlib.Core.Path.{refl}
 use native.Mathlib.Omega.{arith}
 use Rattle.effect_one.specs.Single.{drop_only}
 use Rattle.sheet.specs.Read.{effect_at}
 use Rattle.sheet.specs.Inner.{one_words}
-use Rattle.effect.proofs.Filled.{Ones, ones_more, ones_all}
+use Rattle.effect.proofs.Filled.{ones_more, ones_all}
 use borrow.Author.Rules.{rules}
 use Rattle.sheet.proofs.inner_effect.Goals as goal
 

@@ -1,5 +1,4 @@
 use Rattle.sheet.specs.Inner.{one_words}
-use borrow.Author.Rules.{rules}
 use Rattle.sheet.proofs.inner_one.Goals as goal
 
 pub returns : goal.returns

@@ -1,5 +1,4 @@
 use Rattle.sheet.specs.Read.{marked}
-use borrow.Author.Rules.{rules}
 use Rattle.sheet.proofs.is_marked.Goals as goal
 
 pub returns : goal.returns

@@ -1,6 +1,4 @@
-use Prim.Native.Nat.{◌+◌, ◌-◌, ◌*◌, ◌≤◌, ◌<◌}
-use mathlib.Core.Path.{◌≡◌, refl, ap, ◌∙◌}
-use native.Mathlib.Nat.{mul-le-mul}
+use mathlib.Core.Path.{◌≡◌, ap, ◌∙◌}
 use native.Mathlib.Omega.{arith}
 use Rattle.sheet.specs.Write.{laid_out}
 use Rattle.sheet.proofs.Fill.{laid_none, laid_more}

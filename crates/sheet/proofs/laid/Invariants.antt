@@ -1,10 +1,6 @@
-use Prim.Native.Nat.{◌+◌, ◌-◌, ◌*◌, ◌≤◌, ◌<◌}
-use mathlib.Core.Path.{◌≡◌, refl, ap, ◌∙◌}
-use native.Mathlib.Nat.{mul-le-mul}
-use native.Mathlib.Omega.{arith}
+use Prim.Native.Nat.{◌-◌, ◌≤◌}
+use mathlib.Core.Path.{◌≡◌}
 use Rattle.sheet.specs.Write.{laid_out}
-use Rattle.sheet.proofs.Fill.{laid_none, laid_more}
-use borrow.Author.Rules.{rules}
 use Rattle.sheet.proofs.laid.Given as goal
 
 abbrev pub invariant-loop-k : goal.invariant-loop-k

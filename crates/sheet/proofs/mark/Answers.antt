@@ -1,7 +1,6 @@
 use mathlib.Core.Path.{ap, ◌∙◌}
 use native.Mathlib.Omega.{arith}
 use Rattle.sheet.specs.Read.{sheet_word}
-use borrow.Author.Rules.{rules}
 use Rattle.sheet.proofs.mark.Goals as goal
 
 pub returns : goal.returns

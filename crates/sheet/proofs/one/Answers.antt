@@ -1,6 +1,5 @@
 use Rattle.sheet.specs.Read.{column, effect_at}
 use Rattle.sheet.proofs.Back.{six_there}
-use borrow.Author.Rules.{rules}
 use Rattle.sheet.proofs.one.Goals as goal
 
 pub returns : goal.returns

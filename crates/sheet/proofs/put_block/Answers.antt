@@ -4,7 +4,6 @@ use lib.ListN.{length, get_or}
 use native.Mathlib.Omega.{arith}
 use Rattle.words.specs.Write.{bytes_of}
 use Rattle.words.proofs.Splice.{length_bytes, lent_back}
-use borrow.Author.Rules.{rules}
 use Rattle.sheet.proofs.put_block.Goals as goal
 
 pub returns : goal.returns

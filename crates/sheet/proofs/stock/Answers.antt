@@ -1,5 +1,4 @@
 use Rattle.sheet.specs.Read.{stock_at}
-use borrow.Author.Rules.{rules}
 use Rattle.sheet.proofs.stock.Goals as goal
 
 pub returns : goal.returns

@@ -1,11 +1,10 @@
 use Prim.Native.Nat.{◌+◌, ◌*◌, ◌≤◌}
-use mathlib.Core.Path.{◌≡◌, refl, sym, ap, ◌∙◌}
+use mathlib.Core.Path.{refl, sym, ap, ◌∙◌}
 use lib.ListN.{length}
 use lib.Seq.{length-take-le}
 use native.Mathlib.Omega.{arith}
 use Rattle.words.specs.Write.{splice}
 use Rattle.sheet.proofs.Fill.{stock_laid, laid_long}
-use borrow.Author.Rules.{rules}
 use Rattle.sheet.proofs.write_stock.Goals as goal
 
 pub slice_bounds-put_block-end : goal.slice_bounds-put_block-end

@@ -1,7 +1,6 @@
 use mathlib.Core.Path.{◌≡◌, sym, ap, ◌∙◌}
 use mathlib.Core.Bool.{true, false}
 use lib.Dec.{eqb}
-use borrow.Author.Rules.{rules}
 use Rattle.effect.proofs.Failing.{fails_none}
 use Rattle.sheet.specs.Read.{marked, effect_at}
 use Rattle.sheet.specs.Under.{effect_under}

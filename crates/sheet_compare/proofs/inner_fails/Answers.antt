@@ -1,11 +1,10 @@
-use Prim.Native.Nat.{◌≤◌, ◌-◌}
 use mathlib.Core.Path.{◌∙◌, ap}
 use borrow.Author.Count.{below_none}
 use borrow.Author.Rules.{rules}
 use Rattle.effect_one.specs.Formulas.{at_most_one}
 use Rattle.effect.specs.Six.{one_at}
 use Rattle.sheet.specs.Read.{effect_at}
-use Rattle.sheet_compare.proofs.Compare.{UnderBelow, under_more, under_found, under_none}
+use Rattle.sheet_compare.proofs.Compare.{under_more, under_found, under_none}
 use mathlib.Core.Bool.{not}
 use Rattle.sheet_compare.proofs.inner_fails.Goals as goal
 

@@ -1,7 +1,6 @@
 use mathlib.Core.Path.{sym, ◌∙◌}
 use Rattle.effect_one.specs.Formulas.{at_most_one}
 use Rattle.sheet_compare.proofs.Compare.{same_under}
-use borrow.Author.Rules.{rules}
 use Rattle.sheet_compare.proofs.one_under.Goals as goal
 
 pub returns-then-here-there : goal.returns-then-here-there

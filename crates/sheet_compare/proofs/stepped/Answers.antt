@@ -1,9 +1,8 @@
-use Prim.Native.Nat.{◌-◌}
 use mathlib.Core.Path.{refl, ◌∙◌}
 use native.Mathlib.Omega.{arith}
 use borrow.Author.Rules.{rules}
 use Rattle.effect_one.specs.Single.{drop_only}
-use Rattle.effect.proofs.Filled.{Ones, ones_more, ones_all}
+use Rattle.effect.proofs.Filled.{ones_more, ones_all}
 use Rattle.sheet_compare.proofs.Compare.{step_all}
 use Rattle.effect_one.specs.Formulas.{then_one}
 use lib.Dec.{eqb}

@@ -1,8 +1,5 @@
-use Prim.Native.Nat.{ℕ, ◌≤◌, ◌<◌, ◌-◌}
-use mathlib.Core.Path.{◌≡◌}
-use mathlib.Core.Bool.{true}
 use borrow.Author.Count.{below_none}
-use Rattle.sheet_compare.proofs.Compare.{under_at, step_more, step_found, step_none}
+use Rattle.sheet_compare.proofs.Compare.{step_more, step_found, step_none}
 use borrow.Author.Rules.{rules}
 use mathlib.Core.Path.{ap}
 use mathlib.Core.Bool.{not}

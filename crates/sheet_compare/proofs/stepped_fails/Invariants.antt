@@ -1,11 +1,7 @@
 use Prim.Native.Nat.{ℕ, ◌≤◌, ◌<◌, ◌-◌}
 use mathlib.Core.Path.{◌≡◌}
 use mathlib.Core.Bool.{true}
-use borrow.Author.Count.{below_none}
-use Rattle.sheet_compare.proofs.Compare.{under_at, step_more, step_found, step_none}
-use borrow.Author.Rules.{rules}
-use mathlib.Core.Path.{ap}
-use mathlib.Core.Bool.{not}
+use Rattle.sheet_compare.proofs.Compare.{under_at}
 use Rattle.sheet_compare.proofs.stepped_fails.Given as goal
 
 abbrev pub invariant-loop-k : goal.invariant-loop-k

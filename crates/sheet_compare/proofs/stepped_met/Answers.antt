@@ -1,7 +1,6 @@
 use mathlib.Core.Path.{◌≡◌, sym, ap, ◌∙◌}
 use mathlib.Core.Bool.{true, false}
 use lib.Dec.{eqb}
-use borrow.Author.Rules.{rules}
 use Rattle.effect.specs.Six.{effect_of}
 use Rattle.effect.specs.Whole.{one_if, then_of}
 use Rattle.effect.proofs.Failing.{fails_none}

@@ -1,6 +1,5 @@
 use mathlib.Core.Path.{sym, ap, ◌∙◌}
 use borrow.Author.Tests.{eq-eqb, ne_eqb}
-use borrow.Author.Rules.{rules}
 use Rattle.effect_one.specs.Formulas.{then_one}
 use Rattle.effect.specs.Whole.{one_if}
 use Rattle.sheet_compare.proofs.stepped_one.Goals as goal

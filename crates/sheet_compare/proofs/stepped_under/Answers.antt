@@ -4,7 +4,6 @@ use Rattle.effect_one.specs.Formulas.{then_one, at_most_one}
 use Rattle.effect.specs.Whole.{one_if}
 use Rattle.sheet.specs.Inner.{one_words}
 use Rattle.sheet_compare.proofs.Compare.{word_small, idle_under}
-use borrow.Author.Rules.{rules}
 use Rattle.sheet_compare.proofs.stepped_under.Goals as goal
 
 pub returns-then-k-n : goal.returns-then-k-n

@@ -1,6 +1,4 @@
-use Prim.Native.Nat.{◌<◌}
 use mathlib.Core.Path.{sym, ◌∙◌}
-use borrow.Author.Rules.{rules}
 use Rattle.effect_one.specs.Formulas.{at_most_one}
 use Rattle.sheet.proofs.Types.{one_read, idle_read}
 use Rattle.sheet_compare.proofs.type_under.Goals as goal

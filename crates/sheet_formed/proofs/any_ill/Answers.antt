@@ -2,10 +2,8 @@ use Prim.Native.Nat.{ℕ}
 use mathlib.Core.List.{List}
 use mathlib.Core.Path.{◌≡◌, ap, sym, ◌∙◌}
 use borrow.Author.Tests.{eq-eqb, ne_eqb}
-use Rattle.sheet_layout.specs.Layout.{block_at}
 use Rattle.sheet.specs.Read.{mark_at}
 use Rattle.sheet_formed.specs.Ill.{ill_block}
-use borrow.Author.Rules.{rules}
 use Rattle.sheet_formed.proofs.any_ill.Goals as goal
 
 mark_is : (s : List ℕ) {m w v : ℕ} → m ≡ mark_at s w → w ≡ v → m ≡ mark_at s v

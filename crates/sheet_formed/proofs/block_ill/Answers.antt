@@ -1,9 +1,8 @@
 use mathlib.Core.Path.{◌≡◌, sym, ◌∙◌}
 use mathlib.Core.Bool.{false, cond, not}
 use borrow.Author.Tests.{not-true}
-use borrow.Author.Rules.{rules}
 use Rattle.words.proofs.Tests.{and_l, and_r}
-use Rattle.sheet_layout.specs.Layout.{effect_size, is_stock, block_at}
+use Rattle.sheet_layout.specs.Layout.{is_stock}
 use Rattle.sheet_layout.proofs.Blocks.{effect_size_is}
 use Rattle.effect.specs.Whole.{normal_of}
 use Rattle.sheet.specs.Read.{mark_at, stock_at, effect_at}

@@ -1,4 +1,3 @@
-use borrow.Author.Rules.{rules}
 use Rattle.sheet_formed.proofs.content_fits.Goals as goal
 
 pub returns-then-stock : goal.returns-then-stock

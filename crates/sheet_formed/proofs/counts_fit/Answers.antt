@@ -1,6 +1,5 @@
 use mathlib.Core.Path.{refl}
 use Rattle.sheet_formed.specs.Ill.{counts_fit}
-use borrow.Author.Rules.{rules}
 use Rattle.sheet_formed.proofs.counts_fit.Goals as goal
 
 pub returns : goal.returns

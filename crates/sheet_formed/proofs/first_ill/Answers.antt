@@ -1,8 +1,7 @@
-use Prim.Native.Nat.{◌≤◌, ◌-◌}
 use mathlib.Core.Path.{sym, ◌∙◌}
 use borrow.Author.Count.{below_more, below_none}
 use borrow.Author.Rules.{rules}
-use Rattle.words.proofs.Lowest.{NoneBelow, scan_found, scan_none}
+use Rattle.words.proofs.Lowest.{scan_found, scan_none}
 use Rattle.sheet_formed.specs.Ill.{ill_block}
 use Rattle.sheet_formed.proofs.first_ill.Goals as goal
 

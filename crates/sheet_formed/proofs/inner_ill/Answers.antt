@@ -1,6 +1,5 @@
 use mathlib.Core.Path.{sym, ◌∙◌}
 use borrow.Author.Tests.{eq-eqb, ne_eqb}
-use borrow.Author.Rules.{rules}
 use Rattle.sheet_formed.proofs.inner_ill.Goals as goal
 
 pub returns-then-mark-eq0 : goal.returns-then-mark-eq0

@@ -1,11 +1,8 @@
-use Prim.Native.Nat.{ℕ, ◌-◌, ◌≤◌, ◌<◌}
-use mathlib.Core.Path.{◌≡◌, sym, ap, ◌∙◌}
-use mathlib.Core.Bool.{true}
+use mathlib.Core.Path.{sym, ap, ◌∙◌}
 use borrow.Author.Count.{below_more, below_none}
 use borrow.Author.Tests.{not-true, not-false}
 use borrow.Author.Rules.{rules}
 use Rattle.effect_one.specs.Formulas.{normal_one}
-use Rattle.sheet.specs.Inner.{one_words}
 use Rattle.sheet_formed.proofs.Inner.{normal_found, normal_none}
 use mathlib.Core.Bool.{not}
 use Rattle.sheet_formed.proofs.inner_normal.Goals as goal

@@ -1,13 +1,8 @@
 use Prim.Native.Nat.{ℕ, ◌-◌, ◌≤◌, ◌<◌}
-use mathlib.Core.Path.{◌≡◌, sym, ap, ◌∙◌}
+use mathlib.Core.Path.{◌≡◌}
 use mathlib.Core.Bool.{true}
-use borrow.Author.Count.{below_more, below_none}
-use borrow.Author.Tests.{not-true, not-false}
-use borrow.Author.Rules.{rules}
 use Rattle.effect_one.specs.Formulas.{normal_one}
 use Rattle.sheet.specs.Inner.{one_words}
-use Rattle.sheet_formed.proofs.Inner.{normal_found, normal_none}
-use mathlib.Core.Bool.{not}
 use Rattle.sheet_formed.proofs.inner_normal.Given as goal
 
 abbrev pub invariant-loop-k : goal.invariant-loop-k

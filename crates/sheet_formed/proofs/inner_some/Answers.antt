@@ -1,12 +1,9 @@
-use Prim.Native.Nat.{◌+◌, ◌-◌, ◌*◌, ◌≤◌}
+use Prim.Native.Nat.{◌+◌, ◌*◌}
 use mathlib.Core.Path.{sym, ◌∙◌}
 use native.Mathlib.Omega.{arith}
-use borrow.Author.Count.{below_more, below_none}
 use borrow.Author.Rules.{rules}
-use Rattle.words.proofs.Lowest.{NoneBelow}
 use Rattle.sheet_layout.specs.Layout.{effect_size}
-use Rattle.sheet_formed.specs.Ill.{not_zero}
-use Rattle.sheet_formed.proofs.Scan.{some_none, zero_there}
+use Rattle.sheet_formed.proofs.Scan.{some_none}
 use Rattle.sheet_formed.proofs.Inner.{first_more, four_more, four_found}
 use Rattle.sheet_formed.proofs.inner_some.Goals as goal
 

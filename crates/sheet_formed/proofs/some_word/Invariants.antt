@@ -1,10 +1,6 @@
 use Prim.Native.Nat.{◌≤◌, ◌-◌}
-use mathlib.Core.Path.{sym, ◌∙◌}
-use borrow.Author.Count.{below_more, below_none}
-use borrow.Author.Rules.{rules}
 use Rattle.words.proofs.Lowest.{NoneBelow}
 use Rattle.sheet_formed.specs.Ill.{not_zero}
-use Rattle.sheet_formed.proofs.Scan.{some_found, some_none, zero_there}
 use Rattle.sheet_formed.proofs.some_word.Given as goal
 
 abbrev pub invariant-loop-k : goal.invariant-loop-k

@@ -1,11 +1,9 @@
-use Prim.Native.Nat.{◌+◌, ◌-◌, ◌*◌, ◌≤◌, ◌<◌}
-use mathlib.Core.Path.{◌≡◌, refl}
+use Prim.Native.Nat.{◌-◌, ◌≤◌}
+use mathlib.Core.Path.{◌≡◌}
 use lib.ListN.{length}
-use native.Mathlib.Omega.{arith}
-use borrow.Author.Rules.{rules}
 use Rattle.sheet.specs.Read.{marked}
 use Rattle.sheet_lower.specs.Lowered.{lowered_effect}
-use Rattle.sheet_lower.proofs.Turn.{Laid, none_laid, type_more, type_left, mark_last, lowered_at}
+use Rattle.sheet_lower.proofs.Turn.{Laid}
 use Rattle.sheet_lower.proofs.lower_effect.Given as goal
 
 abbrev pub invariant-loop-k : goal.invariant-loop-k

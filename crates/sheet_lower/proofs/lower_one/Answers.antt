@@ -1,7 +1,6 @@
 use Prim.Native.Nat.{◌+◌, ◌*◌}
 use mathlib.Core.Path.{sym, ap, ◌∙◌}
 use mathlib.Core.Bool.{cond}
-use borrow.Author.Rules.{rules}
 use Rattle.words.specs.Write.{splice}
 use Rattle.effect_one.specs.Formulas.{both_one}
 use Rattle.sheet.specs.Inner.{one_words}

@@ -1,5 +1,4 @@
 use native.Mathlib.Omega.{arith}
-use borrow.Author.Rules.{rules}
 use Rattle.words.specs.Four.{four_at}
 use Rattle.words.proofs.inner_four.Goals as goal
 

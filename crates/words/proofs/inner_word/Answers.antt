@@ -1,6 +1,5 @@
 use Prim.Native.Nat.{◌+◌}
 use native.Mathlib.Omega.{arith}
-use borrow.Author.Rules.{rules}
 use Rattle.words.specs.Bytes.{word_at}
 use Rattle.words.proofs.Read.{byte_is}
 use Rattle.words.proofs.inner_word.Goals as goal

@@ -1,8 +1,5 @@
-use Prim.Native.Nat.{◌-◌}
 use mathlib.Core.Path.{refl}
-use lib.ListN.{length, get_or}
-use borrow.Author.Rules.{rules}
-use Rattle.words.proofs.Fill.{Filling, fill_start, fill_turn, fill_end}
+use Rattle.words.proofs.Fill.{fill_start, fill_turn, fill_end}
 use Rattle.words.proofs.put_words.Goals as goal
 
 pub loop-k-init : goal.loop-k-init

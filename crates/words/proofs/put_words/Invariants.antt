@@ -1,8 +1,6 @@
 use Prim.Native.Nat.{◌-◌}
-use mathlib.Core.Path.{refl}
 use lib.ListN.{length, get_or}
-use borrow.Author.Rules.{rules}
-use Rattle.words.proofs.Fill.{Filling, fill_start, fill_turn, fill_end}
+use Rattle.words.proofs.Fill.{Filling}
 use Rattle.words.proofs.put_words.Given as goal
 
 abbrev pub invariant-loop-k : goal.invariant-loop-k

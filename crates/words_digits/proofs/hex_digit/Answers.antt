@@ -1,5 +1,4 @@
 use borrow.Author.Tests.{lt-ltb, le-ltb}
-use borrow.Author.Rules.{rules}
 use Rattle.words_digits.proofs.hex_digit.Goals as goal
 
 pub returns-then-d-lt10 : goal.returns-then-d-lt10

@@ -1,4 +1,3 @@
-use borrow.Author.Rules.{rules}
 use native.Mathlib.Omega.{arith}
 use Rattle.words_digits.specs.Digits.{decimal}
 use Rattle.words_digits.proofs.Join.{◌then◌}

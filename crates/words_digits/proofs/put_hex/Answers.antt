@@ -1,4 +1,3 @@
-use borrow.Author.Rules.{rules}
 use mathlib.Core.List.{[], ◌∷◌}
 use Rattle.words_digits.proofs.Join.{retext, ◌then◌}
 use Rattle.words_digits.proofs.put_hex.Goals as goal

@@ -1,11 +1,9 @@
-use Prim.Native.Nat.{◌+◌, ◌-◌, ◌≤◌, ◌<◌}
-use mathlib.Core.Path.{◌≡◌}
-use lib.ListN.{length, take}
+use Prim.Native.Nat.{◌<◌}
+use lib.ListN.{length}
 use lib.Seq.{take-suc, take_all}
 use native.Mathlib.Numerals.{add-one}
 use native.Mathlib.Omega.{arith}
 use borrow.Author.Rules.{rules}
-use Rattle.words_digits.specs.Puts.{Puts}
 use Rattle.words_digits.proofs.Join.{none, ◌then◌}
 use Rattle.words_digits.proofs.put_text.Goals as goal
 

@@ -1,12 +1,7 @@
-use Prim.Native.Nat.{◌+◌, ◌-◌, ◌≤◌, ◌<◌}
+use Prim.Native.Nat.{◌+◌, ◌-◌, ◌≤◌}
 use mathlib.Core.Path.{◌≡◌}
 use lib.ListN.{length, take}
-use lib.Seq.{take-suc, take_all}
-use native.Mathlib.Numerals.{add-one}
-use native.Mathlib.Omega.{arith}
-use borrow.Author.Rules.{rules}
 use Rattle.words_digits.specs.Puts.{Puts}
-use Rattle.words_digits.proofs.Join.{none, ◌then◌}
 use Rattle.words_digits.proofs.put_text.Given as goal
 
 abbrev pub invariant-loop-i : goal.invariant-loop-i

@@ -1,5 +1,4 @@
 use mathlib.Core.Path.{refl, sym, ◌∙◌}
-use borrow.Author.Rules.{rules}
 use Rattle.work.specs.Meaning.{refused}
 use Rattle.work.proofs.Sweeping.{passed_fitting, judged_refused}
 use Rattle.work.proofs.of_judged.Goals as goal

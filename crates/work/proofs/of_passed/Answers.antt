@@ -1,5 +1,4 @@
 use mathlib.Core.Path.{sym, ◌∙◌}
-use borrow.Author.Rules.{rules}
 use Rattle.work.proofs.Sweeping.{make_ready, refused_length, answers}
 use Rattle.work.proofs.of_passed.Goals as goal
 
