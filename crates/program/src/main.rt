@@ -6,13 +6,14 @@ ghost use Rattle.std.specs.Prelude.{◌≡◌, ◌≤◌, length, take};
 ghost use Rattle.listing.specs.Lists.{Prints};
 
 use answer::Answer;
+use std::io::{Stderr, Stdout};
 
-fn complain(to: &impl Print, text: &[u8]) {
+fn complain(to: Stderr, text: &[u8]) {
     let _ = to.write_all(text);
 }
 
 // Only the listing of the input is ever printed.
-fn print(to: &impl Print, input: &[u8], listing: &[u8]) -> bool
+fn print(to: Stdout, input: &[u8], listing: &[u8]) -> bool
     requires { Prints input.now listing.now }
 {
     to.write_all(listing).is_ok()
@@ -53,19 +54,13 @@ fn main(rt: HostRuntime) {
     let mut file = longest_file();
     let input = program_input::read(&mut rt.stdin(), &mut file);
     if input.failed {
-        complain(
-            &rt.stderr(),
-            b"snellair: standard input could not be read\n",
-        );
+        complain(rt.stderr(), b"snellair: standard input could not be read\n");
         return;
     }
     let mut out = longest_listing();
     let n = input.length;
     let m = list(&file[..n], &mut out);
-    if !print(&rt, &file[..n], &out[..m]) {
-        complain(
-            &rt.stderr(),
-            b"snellair: the listing could not be written\n",
-        );
+    if !print(rt.stdout(), &file[..n], &out[..m]) {
+        complain(rt.stderr(), b"snellair: the listing could not be written\n");
     }
 }
