@@ -8,19 +8,10 @@ use Rattle.graph.proofs.lowest_uncalled.Goals as goal
 pub loop-n-init : goal.loop-n-init
 loop-n-init c = (search rules, below_none _)
 
-pub uncalled-requires : goal.uncalled-requires
-uncalled-requires c = search rules
-
 pub returns-then-uncalled : goal.returns-then-uncalled
 returns-then-uncalled c =
     let a = c.args in
     scan_found (uncalled a.f.now a.t) refl c.loop-n.invariant.1 (search rules) (sym c.uncalled.ensures ∙ c.if-uncalled.true)
-
-pub overflow_add-n : goal.overflow_add-n
-overflow_add-n c = search rules
-
-pub loop-n-smaller : goal.loop-n-smaller
-loop-n-smaller c = search rules
 
 pub loop-n-preserved : goal.loop-n-preserved
 loop-n-preserved c = (search rules, below_more _ _ c.loop-n.invariant.1 (sym c.uncalled.ensures ∙ c.if-uncalled.false))

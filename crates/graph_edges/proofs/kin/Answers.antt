@@ -3,7 +3,6 @@ use mathlib.Core.Path.{refl, sym, ◌∙◌}
 use mathlib.Core.Bool.{Bool}
 use lib.Dec.{eqb}
 use borrow.Author.Tests.{eq-eqb, ne_eqb}
-use borrow.Author.Rules.{rules}
 use Rattle.graph_tables.proofs.Family.{nearest_here, nearest_up, nearest_last}
 use Rattle.graph_refuse.specs.Bad.{kin}
 use Rattle.graph_edges.proofs.kin.Goals as goal
@@ -14,9 +13,6 @@ is c a = eqb a c
 pub loop-kind-init : goal.loop-kind-init
 loop-kind-init c = refl
 
-pub parent-parent-requires : goal.parent-parent-requires
-parent-parent-requires c = search rules
-
 pub returns-then-kind-parent : goal.returns-then-kind-parent
 unfolding kin
 returns-then-kind-parent c =
@@ -24,9 +20,6 @@ returns-then-kind-parent c =
     let other = ne_eqb c.loop-kind.kind a.c c.loop-kind-test.true in
     let last = nearest_last a.f.now a.t (is a.c) c.loop-kind.kind (rw (← c.parent-parent.ensures.0) c.if-kind-parent.true) in
     rw (c.loop-kind.invariant, last) (sym other)
-
-pub loop-kind-smaller : goal.loop-kind-smaller
-loop-kind-smaller c = search rules
 
 pub loop-kind-preserved : goal.loop-kind-preserved
 loop-kind-preserved c =

@@ -7,34 +7,13 @@ use Rattle.graph_rows.specs.Rows.{key_of, first_row}
 use Rattle.graph_rows.proofs.Halve.{AtLeast, less_below, closed}
 use Rattle.graph_rows.proofs.first_row.Goals as goal
 
-pub rows-high-requires : goal.rows-high-requires
-rows-high-requires c = search rules
-
 pub loop-low-init : goal.loop-low-init
 loop-low-init c = (search rules, search rules, below_none _, λ l. absurd (lt_irrefl _ l))
-
-pub overflow_sub-middle : goal.overflow_sub-middle
-overflow_sub-middle c = search rules
-
-pub overflow_add-middle : goal.overflow_add-middle
-overflow_add-middle c = search rules
-
-pub key-requires : goal.key-requires
-key-requires c = search rules
-
-pub loop-low-smaller-then-x-key : goal.loop-low-smaller-then-x-key
-loop-low-smaller-then-x-key c = search rules
 
 pub loop-low-preserved-then-x-key : goal.loop-low-preserved-then-x-key
 loop-low-preserved-then-x-key c =
     let l = c.loop-low.invariant in
     (search rules, search rules, l.2, λ u. rw (← c.key.ensures) (le-leb _ _ c.if-x-key.true))
-
-pub overflow_add-low : goal.overflow_add-low
-overflow_add-low c = search rules
-
-pub loop-low-smaller : goal.loop-low-smaller
-loop-low-smaller c = search rules
 
 pub loop-low-preserved : goal.loop-low-preserved
 loop-low-preserved c =

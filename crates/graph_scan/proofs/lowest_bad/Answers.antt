@@ -5,25 +5,13 @@ use Rattle.words.proofs.Lowest.{scan_found, scan_none}
 use Rattle.graph_scan.specs.Scan.{row_bad}
 use Rattle.graph_scan.proofs.lowest_bad.Goals as goal
 
-pub rows-n-requires : goal.rows-n-requires
-rows-n-requires c = search rules
-
 pub loop-k-init : goal.loop-k-init
 loop-k-init c = (search rules, below_none _)
-
-pub row_bad-requires : goal.row_bad-requires
-row_bad-requires c = search rules
 
 pub returns-then-row_bad : goal.returns-then-row_bad
 returns-then-row_bad c =
     let a = c.args in
     scan_found (row_bad a.f.now a.t a.table) c.rows-n.ensures c.loop-k.invariant.1 (search rules) (sym c.row_bad.ensures ∙ c.if-row_bad.true)
-
-pub overflow_add-k : goal.overflow_add-k
-overflow_add-k c = search rules
-
-pub loop-k-smaller : goal.loop-k-smaller
-loop-k-smaller c = search rules
 
 pub loop-k-preserved : goal.loop-k-preserved
 loop-k-preserved c = (search rules, below_more _ _ c.loop-k.invariant.1 (sym c.row_bad.ensures ∙ c.if-row_bad.false))

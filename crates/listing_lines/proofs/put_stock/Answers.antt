@@ -16,29 +16,11 @@ pub loop-k-init : goal.loop-k-init
 loop-k-init c =
     let a = c.args in (search rules, start (line a.n a.held) a.out.now a.at (omega arith))
 
-pub offset_bounds-held-k : goal.offset_bounds-held-k
-offset_bounds-held-k c = search rules
-
-pub bounds-held-k : goal.bounds-held-k
-bounds-held-k c = search rules
-
-pub offset_bounds-held-k-in-loop-k : goal.offset_bounds-held-k-in-loop-k
-offset_bounds-held-k-in-loop-k c = search rules
-
-pub bounds-held-k-in-loop-k : goal.bounds-held-k-in-loop-k
-bounds-held-k-in-loop-k c = search rules
-
 pub put_line-end-requires : goal.put_line-end-requires
 put_line-end-requires c =
     let a = c.args in
     let h : c.loop-k.k < a.types = search rules in
     (search rules, (search rules, omega (arith, room (line a.n a.held) c.loop-k.k a.types h)))
-
-pub overflow_add-k : goal.overflow_add-k
-overflow_add-k c = search rules
-
-pub loop-k-smaller : goal.loop-k-smaller
-loop-k-smaller c = search rules
 
 pub loop-k-preserved : goal.loop-k-preserved
 loop-k-preserved c =

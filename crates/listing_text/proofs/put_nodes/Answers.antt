@@ -18,12 +18,6 @@ put_node-end-requires c =
     let h : c.loop-n.n < a.x.nodes = search rules in
     (c.requires.0, omega (arith, room (node_lines a.f.now a.t a.x a.s.now) c.loop-n.n a.x.nodes h))
 
-pub overflow_add-n : goal.overflow_add-n
-overflow_add-n c = search rules
-
-pub loop-n-smaller : goal.loop-n-smaller
-loop-n-smaller c = search rules
-
 pub loop-n-preserved : goal.loop-n-preserved
 loop-n-preserved c =
     let a = c.args in

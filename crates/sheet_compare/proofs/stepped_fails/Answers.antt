@@ -8,9 +8,6 @@ use Rattle.sheet_compare.proofs.stepped_fails.Goals as goal
 pub loop-k-init : goal.loop-k-init
 loop-k-init c = (search rules, below_none _)
 
-pub stepped_under-requires : goal.stepped_under-requires
-stepped_under-requires c = search rules
-
 pub returns-then-not-stepped_under : goal.returns-then-not-stepped_under
 returns-then-not-stepped_under c =
     let a = c.args in

@@ -11,18 +11,6 @@ pub loop-i-init : goal.loop-i-init
 loop-i-init c =
     let a = c.args in (search rules, search rules, none a.out.now a.at (omega arith))
 
-pub bounds-text-i : goal.bounds-text-i
-bounds-text-i c = search rules
-
-pub put_byte-end-requires : goal.put_byte-end-requires
-put_byte-end-requires c = search rules
-
-pub overflow_add-i : goal.overflow_add-i
-overflow_add-i c = search rules
-
-pub loop-i-smaller : goal.loop-i-smaller
-loop-i-smaller c = search rules
-
 pub loop-i-preserved : goal.loop-i-preserved
 loop-i-preserved c =
     let a = c.args in
