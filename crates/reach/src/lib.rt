@@ -1,5 +1,6 @@
 // What a sheet says of a node, as the verdict and the listing ask for it.
 #![tactic(auto)]
+
 ghost use Rattle.std.specs.Prelude.{◌≡◌};
 ghost use Rattle.effect.specs.Whole.{covers_of};
 ghost use Rattle.reach.specs.Node.{is_reached, node_stock};

@@ -1,6 +1,5 @@
 use mathlib.Core.Path.{sym, ap, ◌∙◌}
 use borrow.Author.Tests.{lt-ltb, le-ltb}
-use borrow.Author.Rules.{rules}
 use Rattle.effect_one.specs.Single.{apply_one}
 use Rattle.effect_one.specs.Formulas.{covers_held}
 use Rattle.effect.specs.Six.{held_at, one_at}

@@ -1,6 +1,5 @@
 use mathlib.Core.Path.{ap, ◌∙◌}
 use mathlib.Core.Bool.{◌&&◌}
-use borrow.Author.Rules.{rules}
 use Rattle.sheet_layout.specs.Layout.{method_at}
 use Rattle.sheet.specs.Read.{marked}
 use Rattle.reach.proofs.reached.Goals as goal

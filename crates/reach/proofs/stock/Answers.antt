@@ -1,5 +1,4 @@
 use mathlib.Core.Path.{ap, ◌∙◌}
-use borrow.Author.Rules.{rules}
 use Rattle.effect.specs.Whole.{apply_of}
 use Rattle.sheet_layout.specs.Layout.{method_at}
 use Rattle.sheet.specs.Read.{effect_at, stock_at}
