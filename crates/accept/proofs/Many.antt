@@ -16,14 +16,14 @@ use Rattle.answer.specs.declared.Answer.TheVariants.{Pass, BadRow}
 use Rattle.answer.specs.Number.{number_of, place_of}
 use Rattle.answer.proofs.Settled.{says_only}
 use Rattle.answer.proofs.Unpack.{zero_pass}
-use Rattle.graph_tables.specs.declared.Tables.{Tables}
 use Rattle.graph_tables.specs.Trailer.{tables_of}
 use Rattle.graph_rows.specs.Rows.{Sorted}
+use Rattle.graph.specs.declared.PassedGraph.{PassedGraph}
 use Rattle.graph.specs.Judge.{judge_of}
+use Rattle.graph.specs.Judgement.{shape_of}
 use Rattle.graph.proofs.Passed.{judged}
 use Rattle.graph.proofs.Rises.{rises}
 use Rattle.graph.proofs.Whole.{own_shape, shape_within}
-use Rattle.sheet_layout.specs.declared.Shape.{Shape}
 use Rattle.sheet_layout.specs.Layout.{Within, sheet_bytes}
 use Rattle.rule_test.specs.Sheet.{shape}
 use Rattle.accept.specs.Check.{judged_sheet, check_of}
@@ -37,22 +37,31 @@ use Rattle.accept.proofs.Meaning.{checks, safe}
 pub sheet_within : (size : ℕ) {i k : ℕ} → i < k → i * size + size ≤ k * size
 sheet_within size {i} {k} h = rw (suc-mul i size) at (mul-le-mul_right size h)
 
--- a count that is not 0 is one
-pub counted : {size bytes numbers k : ℕ} → (0 < k → Counts size bytes numbers k) → (k ≡ 0 → ⊥) → Counts size bytes numbers k
-counted some n = some (omega arith)
+-- of a file that passes: the sheet has its shape,
+pub own : (p : PassedGraph) → p.shape ≡ shape p.graph.file.now
+own p = p.shape_is ∙ ap shape_of p.tables_are
 
--- what the half of check that relies on the judge needs to know of a file that passes,
-pub relies : (f : List ℕ) {t : Tables} {x : Shape} → judge_of f ≡ Pass → t ≡ tables_of f → x ≡ shape f → Sorted f t × Within x
-relies f p e h = (subst (Sorted f) (sym e) (rises f (tables_of f) (judged f (tables_of f) p)), subst Within (own_shape f p ∙ sym h) (shape_within f))
+-- the half of check that relies on the judge may be asked,
+pub relies : (p : PassedGraph) → Sorted p.graph.file.now p.graph.tables × Within p.shape
+relies p =
+    let f = p.graph.file.now in
+    (subst (Sorted f) (sym p.tables_are) (rises f (tables_of f) (judged f (tables_of f) p.passes)), subst Within (own_shape f p.passes ∙ sym (own p)) (shape_within f))
 
--- and what it answers for the part of the sheets that starts at i times their size is what check answers for sheet i alone
-pub as_alone : (f s : List ℕ) {t : Tables} {x : Shape} {size : ℕ} (i : ℕ) {a : Answer} → judge_of f ≡ Pass → t ≡ tables_of f → x ≡ shape f → size ≡ sheet_bytes x
-    → a ≡ judged_sheet f t x (take (i * size + size - i * size) (drop (i * size) s)) → a ≡ check_of f (sheet_at f s i)
+-- what it answers for a sheet is what check answers,
+pub as_checked : (p : PassedGraph) (s : List ℕ) → judged_sheet p.graph.file.now p.graph.tables p.shape s ≡ check_of p.graph.file.now s
 unfolding check_of
-as_alone f s {size = size} i p e h z q =
-    let own : size ≡ sheet_bytes (shape f) = z ∙ ap sheet_bytes h in
+as_checked p s =
+    let f = p.graph.file.now in
+    (λ j. judged_sheet f (p.tables_are j) (own p j) s) ∙ simp (eq-eqb (number_of (judge_of f)) 0 (ap number_of p.passes))
+
+-- and for the part of the sheets that starts at i times their size what check answers for sheet i alone
+pub as_alone : (p : PassedGraph) (s : List ℕ) {size : ℕ} (i : ℕ) {a : Answer} → size ≡ sheet_bytes p.shape
+    → a ≡ judged_sheet p.graph.file.now p.graph.tables p.shape (take (i * size + size - i * size) (drop (i * size) s)) → a ≡ check_of p.graph.file.now (sheet_at p.graph.file.now s i)
+as_alone p s {size} i z q =
+    let f = p.graph.file.now in
+    let same : size ≡ sheet_bytes (shape f) = z ∙ ap sheet_bytes (own p) in
     let long : i * size + size - i * size ≡ sheet_bytes (shape f) = omega arith in
-    q ∙ (λ j. judged_sheet f (e j) (h j) (take (long j) (drop (i * own j) s))) ∙ simp (eq-eqb (number_of (judge_of f)) 0 (ap number_of p))
+    q ∙ (λ j. judged_sheet f p.graph.tables p.shape (take (long j) (drop (i * same j) s))) ∙ as_checked p (sheet_at f s i)
 
 module _ (f s : List ℕ) where
   -- a row that tells of none, and of one sheet more

@@ -9,23 +9,26 @@ ghost use Rattle.accept_row.specs.Counts.{Counts};
 use answer::Answer;
 use sheet_layout::Shape;
 
-// How many sheets so many bytes are, where the row has two numbers for each; 0 where they are not 1 to 20 whole ones.
-pub fn count_of(x: Shape, bytes: usize, numbers: usize) -> usize
+// How many sheets so many bytes are, where the row has two numbers for each; None where they are not 1 to 20 whole ones.
+pub fn count_of(x: Shape, bytes: usize, numbers: usize) -> Option<usize>
     requires { Within x }
-    ensures some { 0 < result → Counts (sheet_bytes x) bytes numbers result }
-    ensures none { result ≡ 0 → (k : ℕ) → Counts (sheet_bytes x) bytes numbers k → ⊥ }
+    ensures some { (k : ℕ) → result ≡ Some k → Counts (sheet_bytes x) bytes numbers k }
+    ensures none { result ≡ None → (k : ℕ) → Counts (sheet_bytes x) bytes numbers k → ⊥ }
 {
     let count = numbers / 2;
+    if count == 0 {
+        return None;
+    }
     if 20 < count {
-        return 0;
+        return None;
     }
     if numbers != 2 * count {
-        return 0;
+        return None;
     }
     if bytes != count * sheet_layout::sheet_bytes(x) {
-        return 0;
+        return None;
     }
-    count
+    Some(count)
 }
 
 // What was answered for sheet i is put into the row: its number, and behind it its place.

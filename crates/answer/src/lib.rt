@@ -4,7 +4,7 @@
 ghost use Rattle.std.specs.Prelude.{◌≡◌, ◌<◌};
 ghost use Rattle.answer.specs.Number.{number_of, type_of, place_of, line_of, packed_of};
 
-#[derive(Clone, Copy)]
+#[derive(Clone, Copy, PartialEq, Eq)]
 pub enum Answer {
     Pass,
     TooShort,
@@ -28,64 +28,84 @@ pub enum Answer {
     OutputShort,
 }
 
-// Number, type, place and line.
-#[derive(Clone, Copy)]
-struct Parts(u16, u16, u16, u16);
-
-fn said(a: Answer) -> Parts
-    ensures { (result.0 ≡ number_of a) × (result.1 ≡ type_of a) × (result.2 ≡ place_of a) × (result.3 ≡ line_of a) }
-{
-    match a {
-        Answer::Pass => Parts(0, 0, 0, 0),
-        Answer::TooShort => Parts(1, 0, 0, 0),
-        Answer::BadCount(i) => Parts(2, 0, i, 0),
-        Answer::BadLength => Parts(3, 0, 0, 0),
-        Answer::BadEntry(k) => Parts(4, 0, k, 0),
-        Answer::BadNode(k, l) => Parts(5, 0, k, l),
-        Answer::BadFlow(k) => Parts(6, 0, k, 0),
-        Answer::BadCall(k) => Parts(7, 0, k, 0),
-        Answer::BadCatch(k) => Parts(8, 0, k, 0),
-        Answer::BadOpening(k) => Parts(9, 0, k, 0),
-        Answer::BadSheet => Parts(10, 0, 0, 0),
-        Answer::BadBlock(w) => Parts(11, 0, w, 0),
-        Answer::Broken(r, k) => Parts(12, k, r, 0),
-        Answer::Overdrawn(n, k, l) => Parts(13, k, n, l),
-        Answer::Unfit(n, l) => Parts(14, 0, n, l),
-        Answer::BadParent(e) => Parts(15, 0, e, 0),
-        Answer::NoCallRow(n, l) => Parts(17, 0, n, l),
-        Answer::BadArea => Parts(23, 0, 0, 0),
-        Answer::BadRow => Parts(24, 0, 0, 0),
-        Answer::OutputShort => Parts(26, 0, 0, 0),
-    }
-}
-
 pub fn number(a: Answer) -> u16
     ensures { result ≡ number_of a }
 {
-    said(a).0
+    match a {
+        Answer::Pass => 0,
+        Answer::TooShort => 1,
+        Answer::BadCount(_) => 2,
+        Answer::BadLength => 3,
+        Answer::BadEntry(_) => 4,
+        Answer::BadNode(..) => 5,
+        Answer::BadFlow(_) => 6,
+        Answer::BadCall(_) => 7,
+        Answer::BadCatch(_) => 8,
+        Answer::BadOpening(_) => 9,
+        Answer::BadSheet => 10,
+        Answer::BadBlock(_) => 11,
+        Answer::Broken(..) => 12,
+        Answer::Overdrawn(..) => 13,
+        Answer::Unfit(..) => 14,
+        Answer::BadParent(_) => 15,
+        Answer::NoCallRow(..) => 17,
+        Answer::BadArea => 23,
+        Answer::BadRow => 24,
+        Answer::OutputShort => 26,
+    }
 }
 
 // The resource type that the answer names, 0 where it names none.
 pub fn type_of(a: Answer) -> u16
     ensures { result ≡ type_of a }
 {
-    said(a).1
+    match a {
+        Answer::Broken(_, k) | Answer::Overdrawn(_, k, _) => k,
+        _ => 0,
+    }
+}
+
+fn place_of(a: Answer) -> u16
+    ensures { result ≡ place_of a }
+{
+    match a {
+        Answer::BadCount(p)
+        | Answer::BadEntry(p)
+        | Answer::BadNode(p, _)
+        | Answer::BadFlow(p)
+        | Answer::BadCall(p)
+        | Answer::BadCatch(p)
+        | Answer::BadOpening(p)
+        | Answer::BadBlock(p)
+        | Answer::Broken(p, _)
+        | Answer::Overdrawn(p, _, _)
+        | Answer::Unfit(p, _)
+        | Answer::BadParent(p)
+        | Answer::NoCallRow(p, _) => p,
+        _ => 0,
+    }
 }
 
 pub fn place(a: Answer) -> u32
     ensures { (result ≡ place_of a) × (result < 65536) }
 {
-    said(a).2 as u32
+    place_of(a) as u32
 }
 
 // The source line of the node that is the place, 0 where it has none or the place is no node.
 pub fn line(a: Answer) -> u16
     ensures { result ≡ line_of a }
 {
-    said(a).3
+    match a {
+        Answer::BadNode(_, l)
+        | Answer::Overdrawn(_, _, l)
+        | Answer::Unfit(_, l)
+        | Answer::NoCallRow(_, l) => l,
+        _ => 0,
+    }
 }
 
-// The answer in one number, as the C face gives it.
+// The answer in one number, as the C face gives it: powers of two by hand, as its header has them.
 pub fn packed(a: Answer) -> u64
     ensures { result ≡ packed_of a }
 {

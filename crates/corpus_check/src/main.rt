@@ -3,54 +3,22 @@
 // the sheet, which is all that is left.
 #![tactic(auto)]
 
+use corpus_files::{Numbers, Part};
 use std::io;
-use std::io::Read;
 
-fn print_answer(to: &impl Print, name: &[u8], a: answer::Answer) -> io::Result<()> {
-    to.write_all(name)?;
-    print!(to; " {}", answer::number(a))?;
-    print!(to; " {}", answer::type_of(a))?;
-    print!(to; " {}", answer::place(a))?;
-    print!(to; " {}", answer::line(a))?;
-    println!(to)
-}
-
-fn check_both(rt: &HostRuntime, name: &[u8], both: &[u8], why_short: io::Error) -> io::Result<()> {
+// Where no read failed, a file is short by the system's error 0.
+fn check(rt: &HostRuntime, name: &str, part: Part<'_>) -> io::Result<()> {
+    let both = part.bytes;
     let end = 2 + words::word(both, 0);
     if both.len() < end {
-        return corpus_files::fail(rt, name, why_short);
+        let why = part.error.unwrap_or(io::Error::from_raw_os_error(0));
+        return corpus_files::fail(rt, name.as_bytes(), why);
     }
-    print_answer(rt, name, accept::check(&both[2..end], &both[end..]))
+    let a = accept::check(&both[2..end], &both[end..]);
+    println!(rt; "{name} {}", Numbers(a))
 }
 
-// The buffer holds the longest graph file with the longest sheet, and two bytes. Where no read failed, a file is short by the
-// system's error 0.
-fn check_open(rt: &HostRuntime, name: &[u8], file: &mut impl Read) -> io::Result<()> {
-    let mut buffer = [0u8; 69632];
-    let part = corpus_files::read(file, &mut buffer);
-    let n = part.length;
-    let why_short = part.error.unwrap_or(io::Error::from_raw_os_error(0));
-    check_both(rt, name, &buffer[..n], why_short)
-}
-
-// Whether there is an argument i.
-fn check_arg(rt: &HostRuntime, i: usize) -> io::Result<bool> {
-    let mut path = [0u8; 4096];
-    let Some(n) = corpus_files::argument(rt, i, &mut path) else {
-        return Ok(false);
-    };
-    match corpus_files::open(rt, &path[..n]) {
-        Ok(mut file) => check_open(rt, &path[..n], &mut file)?,
-        Err(error) => corpus_files::fail(rt, &path[..n], error)?,
-    }
-    Ok(true)
-}
-
+// There is room for the longest graph file with the longest sheet, and two bytes.
 fn main(rt: HostRuntime) -> io::Result<()> {
-    for i in 1..usize::MAX {
-        if !check_arg(&rt, i)? {
-            break;
-        }
-    }
-    Ok(())
+    corpus_files::each_file::<69632, _>(&rt, |name, part| check(&rt, name, part))
 }

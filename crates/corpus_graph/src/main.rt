@@ -1,45 +1,14 @@
 // Judges each of the files that its arguments name, and prints the name, and the answer's number, type, place and line.
 #![tactic(auto)]
 
+use corpus_files::Numbers;
 use std::io;
-use std::io::Read;
 
-fn print_answer(to: &impl Print, name: &[u8], a: answer::Answer) -> io::Result<()> {
-    to.write_all(name)?;
-    print!(to; " {}", answer::number(a))?;
-    print!(to; " {}", answer::type_of(a))?;
-    print!(to; " {}", answer::place(a))?;
-    print!(to; " {}", answer::line(a))?;
-    println!(to)
+fn judge(to: &impl Print, name: &str, file: &[u8]) -> io::Result<()> {
+    println!(to; "{name} {}", Numbers(graph::judged(file).answer))
 }
 
-// The buffer is longer than the longest file, so that files that are too long are judged as well.
-fn judge_open(to: &impl Print, name: &[u8], file: &mut impl Read) -> io::Result<()> {
-    let mut buffer = [0u8; 16384];
-    let n = corpus_files::read(file, &mut buffer).length;
-    let j = graph::judged(&buffer[..n]);
-    let a = j.answer;
-    print_answer(to, name, a)
-}
-
-// Whether there is an argument i.
-fn judge_arg(rt: &HostRuntime, i: usize) -> io::Result<bool> {
-    let mut path = [0u8; 4096];
-    let Some(n) = corpus_files::argument(rt, i, &mut path) else {
-        return Ok(false);
-    };
-    match corpus_files::open(rt, &path[..n]) {
-        Ok(mut file) => judge_open(rt, &path[..n], &mut file)?,
-        Err(error) => corpus_files::fail(rt, &path[..n], error)?,
-    }
-    Ok(true)
-}
-
+// There is room for more than the longest file, so that files that are too long are judged as well.
 fn main(rt: HostRuntime) -> io::Result<()> {
-    for i in 1..usize::MAX {
-        if !judge_arg(&rt, i)? {
-            break;
-        }
-    }
-    Ok(())
+    corpus_files::each_file::<16384, _>(&rt, |name, part| judge(&rt, name, part.bytes))
 }

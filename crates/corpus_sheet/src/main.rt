@@ -5,58 +5,31 @@
 use sheet_layout::Shape;
 use std::io;
 
-fn print_block(to: &impl Print, b: u32, w: usize) -> io::Result<()> {
-    println!(to; "block {b} word {w}")
-}
-
-fn judge_sheet(to: &impl Print, s: &[u8], x: Shape) -> io::Result<()> {
-    if s.len() != sheet_layout::sheet_bytes(x) {
+fn judge_sheet(to: &impl Print, sheet: &[u8], x: Shape) -> io::Result<()> {
+    if sheet.len() != sheet_layout::sheet_bytes(x) {
         return println!(to; "wrong length");
     }
-    let b = sheet_formed::first_ill(s, x);
+    let b = sheet_formed::first_ill(sheet, x);
     if b < sheet_layout::block_count(x) {
-        return print_block(to, b, sheet_layout::block_at(x, b));
+        println!(to; "block {b} word {}", sheet_layout::block_at(x, b))
+    } else {
+        println!(to; "well formed")
     }
-    println!(to; "well formed")
 }
 
-fn judge_bytes(to: &impl Print, f: &[u8]) -> io::Result<()> {
-    if f.len() < 3 {
+// Of a file with no whole shape nothing is printed.
+fn judge(to: &impl Print, file: &[u8]) -> io::Result<()> {
+    let [methods, nodes, types, sheet @ ..] = file else {
         return Ok(());
-    }
-    judge_sheet(
-        to,
-        &f[3..],
-        Shape {
-            methods: words::byte(f, 0) as u16,
-            nodes: words::byte(f, 1) as u16,
-            types: words::byte(f, 2) as u16,
-        },
-    )
-}
-
-// Whether there is an argument i.
-fn judge_arg(rt: &HostRuntime, i: usize) -> io::Result<bool> {
-    let mut path = [0u8; 4096];
-    let Some(n) = corpus_files::argument(rt, i, &mut path) else {
-        return Ok(false);
     };
-    match corpus_files::open(rt, &path[..n]) {
-        Ok(mut file) => {
-            let mut buf = [0u8; 4096];
-            let k = corpus_files::read(&mut file, &mut buf).length;
-            judge_bytes(rt, &buf[..k])?;
-        }
-        Err(error) => corpus_files::fail(rt, &path[..n], error)?,
-    }
-    Ok(true)
+    let x = Shape {
+        methods: u16::from(*methods),
+        nodes: u16::from(*nodes),
+        types: u16::from(*types),
+    };
+    judge_sheet(to, sheet, x)
 }
 
 fn main(rt: HostRuntime) -> io::Result<()> {
-    for i in 1..usize::MAX {
-        if !judge_arg(&rt, i)? {
-            break;
-        }
-    }
-    Ok(())
+    corpus_files::each_file::<4096, _>(&rt, |_, part| judge(&rt, part.bytes))
 }

@@ -1,20 +1,24 @@
--- What a loop over the six types has made after k turns.
+-- What a loop over the six types has made after k turns, and what a fold over them tells.
 use Prim.Native.Nat.{ℕ, zero, suc, ◌+◌, ◌≤◌, ◌<◌}
-use mathlib.Core.Path.{◌≡◌, refl, ◌∙◌}
-use mathlib.Core.Bool.{Bool, true, cond, ◌&&◌, and_assoc}
-use mathlib.Core.List.{List}
+use mathlib.Core.Path.{◌≡◌, refl, sym, ◌∙◌}
+use mathlib.Core.Bool.{Bool, true, cond, ◌&&◌, and-true, and_assoc}
+use mathlib.Core.List.{List, [], ◌∷◌, ◌++◌}
 use lib.ListN.{set}
-use lib.Dec.{ltb, eqb}
-use borrow.Author.Tests.{ne_eqb}
+use lib.Dec.{ltb}
 use native.Mathlib.Numerals.{add-one}
 use native.Mathlib.Omega.{arith}
+use denote.Param.Members.{Mut, Called}
+use Rattle.std.specs.declared.option.Option.{Option}
+use Rattle.std.specs.Iterator.{Drains}
+use Rattle.std.specs.List.{FoldsTo, list_all, range_with_len}
+use Rattle.std.proofs.lemmas.Fn.{fold_over}
+use Rattle.std.proofs.lemmas.Iterator.{YieldsList}
+use Rattle.std.proofs.lemmas.List.Folds.{list_all-append}
 use Rattle.effect_one.specs.declared.Held.{Held}
 use Rattle.effect_one.specs.declared.One.{One}
 use Rattle.effect.specs.declared.Stock.{Stock}
 use Rattle.effect.specs.declared.Effect.{Effect}
-use Rattle.effect_one.specs.Single.{idle}
-use Rattle.effect.specs.Apply.{one_if}
-use Rattle.effect.specs.Six.{six, all_six, effect_of, stock_of}
+use Rattle.effect.specs.Six.{six, all_six, stock_of}
 use Rattle.effect.proofs.Six.{below_six}
 
 -- the first k of the six are those of f, the others `none`
@@ -105,41 +109,18 @@ module _ (f : ℕ → Bool) where
   unfolding all_below
   all_all {k = k} h g p = let e : k ≡ 6 = omega arith in p ∙ rw e (simp and_assoc)
 
--- nothing done but at one type
-module _ (x : One) where
-  abbrev But : ℕ → Effect
-  But n = effect_of (λ k. one_if (eqb k n) x)
+-- `fold` that asks a test of each of the numbers 0 to 5
+module _ (f : ℕ → Bool) where
+  all_counted : list_all f (range_with_len 0 6) ≡ all_six f
+  all_counted = λ i. f 0 && (f 1 && (f 2 && (f 3 && (f 4 && and-true (f 5) i))))
 
-  pub one_set : (n : ℕ) → n < 6
-      → ◌≡◌ {A = Effect}
-      (record {
-        keepin = set (six (λ k. 0)) n x.keepin;
-        keepmax = set (six (λ k. 65535)) n x.keepmax;
-        cap = set (six (λ k. 255)) n x.cap;
-        drop = set (six (λ k. 0)) n x.drop;
-      })
-      (But n)
-  unfolding idle
-  one_set =
-      below_six
-      (λ n. ◌≡◌ {A = Effect}
-      (record {
-        keepin = set (six (λ k. 0)) n x.keepin;
-        keepmax = set (six (λ k. 65535)) n x.keepmax;
-        cap = set (six (λ k. 255)) n x.cap;
-        drop = set (six (λ k. 0)) n x.drop;
-      })
-      (But n))
-      refl refl refl refl refl refl
+  one_asked : (ks : List ℕ) (k : ℕ) → (list_all f ks && f k) ≡ list_all f (ks ++ (k ∷ []))
+  one_asked ks k = (λ i. list_all f ks && sym (and-true (f k)) i) ∙ sym (list_all-append f ks (k ∷ []))
 
-  pub none_set : (n : ℕ) → 6 ≤ n → ◌≡◌ {A = Effect} (record { keepin = six (λ k. 0); keepmax = six (λ k. 65535); cap = six (λ k. 255); drop = six (λ k. 0) }) (But n)
-  unfolding idle
-  none_set n h =
-      simp (
-        ne_eqb 0 n (omega arith),
-        ne_eqb 1 n (omega arith),
-        ne_eqb 2 n (omega arith),
-        ne_eqb 3 n (omega arith),
-        ne_eqb 4 n (omega arith),
-        ne_eqb 5 n (omega arith),
-      )
+  pub all_folded : {C S : Type 0} {g : Mut C (Bool × (ℕ × Unit {0})) Bool} {c : C} {steps : S → Option ℕ → S → Type 0} {s : S}
+      → ((b : Bool) (k : ℕ) (r : Bool) (d : C) → Called g c (b, (k, tt)) r d → (d ≡ c) × (r ≡ b && f k)) → YieldsList steps (λ k. k) s (range_with_len 0 6) → {r : Bool}
+      → (ks : List ℕ) × (d : C) × Drains steps s ks × FoldsTo {P = C × Bool} (λ p k q. Called g p.0 (p.1, (k, tt)) q.1 q.0) (c, true) ks (d, r) → r ≡ all_six f
+  all_folded {g = g} {c = c} {steps = steps} calls six {r = r} ran =
+      fold_over steps (λ k. k) g (λ ks b. b ≡ list_all f ks) c
+      (λ ks b k r d h q. let v = calls b k r d q in (v.1 ∙ (λ i. h i && f k) ∙ one_asked ks k, v.0)) _ (range_with_len 0 6) true r six.runs refl ran
+      ∙ all_counted

@@ -1,18 +1,16 @@
 -- Six types: what holds of each holds of the whole, and the other way round.
 use Prim.Native.Nat.{ℕ, zero, suc, ◌<◌}
-use mathlib.Core.Path.{◌≡◌, refl, ◌∙◌, ap}
+use mathlib.Core.Path.{◌≡◌, refl}
 use mathlib.Core.Bool.{Bool, true, false, ◌&&◌}
 use mathlib.Core.List.{List, [], ◌∷◌}
 use mathlib.Core.Logic.{⊎_elim}
 use native.Mathlib.Omega.{arith}
 use lib.ListN.{get_or, length}
-use Rattle.words.specs.Lowest.{lowest}
 use Rattle.effect_one.specs.declared.Held.{Held}
 use Rattle.effect_one.specs.declared.One.{One}
 use Rattle.effect.specs.declared.Stock.{Stock}
 use Rattle.effect.specs.declared.Effect.{Effect}
 use Rattle.effect.specs.Six.{six, among, all_six, one_at, effect_of, held_at, stock_of}
-use Rattle.effect.specs.Whole.{lowest_not}
 use Rattle.effect.proofs.Bools.{and_l, and_r, and_i, and_no}
 
 -- a fact at each of the six numbers is a fact at each number below six
@@ -63,18 +61,6 @@ effect_at_lem f = below_six (λ k. one_at (effect_of f) k ≡ f k) refl refl ref
 pub among_ext : {A : Type 0} (f g : ℕ → A) → ((k : ℕ) → k < 6 → f k ≡ g k) → among (f 0) (f 1) (f 2) (f 3) (f 4) (f 5) ≡ among (g 0) (g 1) (g 2) (g 3) (g 4) (g 5)
 among_ext f g h =
     λ i. among (h 0 (omega arith) i) (h 1 (omega arith) i) (h 2 (omega arith) i) (h 3 (omega arith) i) (h 4 (omega arith) i) (h 5 (omega arith) i)
-
--- what is made of six is the whole, where each of them is what the whole has there
-module _ {A : Type 0} (f : ℕ → A) {p q u v x y : A} (a : p ≡ f 0) (b : q ≡ f 1) (c : u ≡ f 2) (d : v ≡ f 3) (e : x ≡ f 4) (g : y ≡ f 5) where
-  each_is : among p q u v x y ≡ among (f 0) (f 1) (f 2) (f 3) (f 4) (f 5)
-  each_is = λ i. among (a i) (b i) (c i) (d i) (e i) (g i)
-
-pub made_effect : {r : Effect} (f : ℕ → One) {p q u v x y : One} → p ≡ f 0 → q ≡ f 1 → u ≡ f 2 → v ≡ f 3 → x ≡ f 4 → y ≡ f 5 → r ≡ effect_of (among p q u v x y) → r ≡ effect_of f
-made_effect f a b c d e g h = h ∙ ap effect_of (each_is f a b c d e g)
-
-pub made_lowest : {r : ℕ} (f : ℕ → Bool) {p q u v x y : Bool} → p ≡ f 0 → q ≡ f 1 → u ≡ f 2 → v ≡ f 3 → x ≡ f 4 → y ≡ f 5 → r ≡ lowest_not (among p q u v x y) → r ≡ lowest_not f
-unfolding lowest
-made_lowest f a b c d e g h = h ∙ ap lowest_not (each_is f a b c d e g)
 
 -- a stock, and an effect, of six types and no more
 abbrev pub SixHeld : Stock → Type 0

@@ -21,17 +21,19 @@ pub struct One {
     pub drop: u16,
 }
 
+#[tactic(auto, unfolding(crate::specs::Formulas::normal_form))]
 pub fn normal_form(x: One) -> One
     ensures { result ≡ normal_form x }
 {
     One {
         keepin: x.keepin & x.keepmax,
         keepmax: x.keepmax,
-        cap: effect_number::smaller(x.cap, 255),
+        cap: x.cap.min(255),
         drop: effect_number::norm_drop(x.cap, x.drop),
     }
 }
 
+#[tactic(auto, unfolding(crate::specs::Formulas::normal_one))]
 pub fn normal(x: One) -> bool
     ensures { result ≡ normal_one x }
 {
@@ -53,18 +55,21 @@ fn dropping(d: u16) -> One
     }
 }
 
+#[tactic(auto, unfolding(crate::specs::Single::idle))]
 pub fn nothing_done() -> One
     ensures { result ≡ idle }
 {
     dropping(0)
 }
 
+#[tactic(auto, unfolding(crate::specs::Formulas::drawn))]
 pub fn draw() -> One
     ensures { result ≡ drawn }
 {
     dropping(1)
 }
 
+#[tactic(auto, unfolding(crate::specs::Formulas::granted))]
 pub fn grant(rights: u16, count: u16) -> One
     ensures { result ≡ granted rights count }
 {
@@ -77,6 +82,7 @@ pub fn grant(rights: u16, count: u16) -> One
 }
 
 // What the effect leaves.
+#[tactic(auto, unfolding(crate::specs::Single::apply_one))]
 pub fn apply(x: One, h: Held) -> Held
     ensures { result ≡ apply_one x h }
 {
@@ -87,6 +93,7 @@ pub fn apply(x: One, h: Held) -> Held
 }
 
 // The first effect, then the second.
+#[tactic(auto, using(effect_number::proofs::Cases::cap_is, effect_number::proofs::Cases::norm_counted), unfolding(crate::specs::Formulas::then_one, crate::specs::Formulas::normal_form))]
 pub fn then(x: One, y: One) -> One
     ensures { result ≡ then_one x y }
 {
@@ -101,6 +108,7 @@ pub fn then(x: One, y: One) -> One
 }
 
 // The effect taken k times, without a repetition; 0 is read as 1.
+#[tactic(auto, unfolding(crate::specs::Formulas::times_one))]
 pub fn times(x: One, k: usize) -> One
     ensures { result ≡ times_one x k }
 {
@@ -117,11 +125,12 @@ pub fn times(x: One, k: usize) -> One
 }
 
 // The smaller of what two effects leave.
+#[tactic(auto, using(effect_number::proofs::Cases::norm_counted), unfolding(crate::specs::Formulas::both_one, crate::specs::Formulas::normal_form))]
 pub fn both(x: One, y: One) -> One
     ensures { result ≡ both_one x y }
 {
     let keepmax = x.keepmax & y.keepmax;
-    let cap = effect_number::smaller(effect_number::smaller(x.cap, y.cap), 255);
+    let cap = x.cap.min(y.cap).min(255);
     One {
         keepin: x.keepin & y.keepin & keepmax,
         keepmax,
@@ -131,6 +140,7 @@ pub fn both(x: One, y: One) -> One
 }
 
 // x leaves at most what y leaves. What keep-in has beyond keep-max is never left, so it is not compared.
+#[tactic(auto, unfolding(crate::specs::Formulas::at_most_one, crate::specs::Formulas::normal_form))]
 pub fn at_most(x: One, y: One) -> bool
     ensures { result ≡ at_most_one x y }
 {
@@ -140,23 +150,26 @@ pub fn at_most(x: One, y: One) -> bool
     i & (m & c)
 }
 
+#[tactic(auto, unfolding(crate::specs::Formulas::held_at_most))]
 pub fn stock_at_most(h: Held, g: Held) -> bool
     ensures { result ≡ held_at_most h g }
 {
     let i = effect_number::within_of(h.rights, g.rights);
-    let c = effect_number::smaller(h.count, 255) <= g.count;
+    let c = h.count.min(255) <= g.count;
     i & c
 }
 
+#[tactic(auto, unfolding(crate::specs::Formulas::lower_held))]
 pub fn lower(h: Held, g: Held) -> Held
     ensures { result ≡ lower_held h g }
 {
     Held {
         rights: h.rights & g.rights,
-        count: effect_number::smaller(h.count, g.count),
+        count: h.count.min(g.count),
     }
 }
 
+#[tactic(auto, unfolding(crate::specs::Formulas::covers_held))]
 pub fn covers(h: Held, rights: u16) -> bool
     ensures { result ≡ covers_held h rights }
 {

@@ -2,17 +2,22 @@
 use Prim.Native.Nat.{ℕ, ◌+◌, ◌-◌, ◌≤◌, ◌<◌}
 use mathlib.Core.Path.{◌≡◌, refl, sym, ap, subst, ◌∙◌}
 use mathlib.Core.Logic.{inl, inr, ⊎_elim}
-use mathlib.Core.List.{List}
+use mathlib.Core.List.{List, ◌++◌}
 use native.Mathlib.Decide.{ℕ_discrete, dec_lt}
 use native.Mathlib.Omega.{arith}
+use borrow.Author.Rules.{rules}
+use borrow.Rule.Slice.PartMut.{put_mid}
+use Rattle.std.specs.Prelude.{MatchOption}
+use Rattle.std.specs.declared.option.Option.{Option}
+use Rattle.std.specs.declared.option.Option.TheVariants.{None, Some}
+use Rattle.std.proofs.lemmas.List.{places}
 use lib.Dec.{eqb}
 use borrow.Author.Tests.{eqb-true}
-use mathlib.Core.Bool.{Bool, true, false, ◌&&◌, true≢false, false≢true}
+use mathlib.Core.Bool.{Bool, true, false, true≢false, false≢true}
 use Rattle.words.specs.Bytes.{byte_at, word_at}
 use Rattle.words.specs.Four.{four_at}
 use Rattle.words.proofs.Four.{four_zero}
-use Rattle.words.proofs.Tests.{and_l, and_r}
-use lib.ListN.{length, get_or, set, replicate, length-set, length-replicate}
+use lib.ListN.{length, get_or, set, take, drop, replicate, length-set, length-replicate}
 use lib.Seq.{get_or-set_same, get_or-set_other}
 use Rattle.graph_tables.specs.declared.Tables.{Tables}
 use Rattle.graph_tables.specs.declared.Table.{Table}
@@ -48,6 +53,20 @@ set_woken a n l = (record { long = length-set a n 1; kept = kept }, waits)
       | yes e ↦ subst (λ v. Waits (set a n 1) v) (sym e) waits
       | no e ↦ omega (arith, get_or-set_other a n i 1 0 e)
     ]
+
+-- a part of the area filled with v
+module _ (a part : List ℕ) (from count v : ℕ) (within : from + count ≤ length a) (filled : part ≡ replicate (length (take count (drop from a))) v) where
+  is_filled : part ≡ replicate count v
+  is_filled = filled ∙ ap (λ n. replicate n v) (search (rules, places))
+
+  pub below_filled : (i : ℕ) → i < from → get_or (put_mid from count a part) i 0 ≡ get_or a i 0
+  below_filled i l = search (rules, places)
+
+  pub inside_filled : (i : ℕ) → from ≤ i → i < from + count → get_or (put_mid from count a part) i 0 ≡ v
+  inside_filled i l h = rw is_filled (search (rules, places))
+
+pub first_wait : (a part : List ℕ) (count : ℕ) → part ≡ replicate (length (take count a)) 1 → count ≤ length a → (i : ℕ) → i < count → Waits (part ++ drop count a) i
+first_wait a part count filled l i k = omega (arith, inside_filled a part 0 count 1 (omega (arith, l)) filled i (omega arith) (omega (arith, k)))
 
 -- what holds of a file that passes
 module _ {f : List ℕ} {t : Tables} {a : List ℕ} (able : Able f t a) where
@@ -109,16 +128,6 @@ leaves_more f t n {a} {b} {k} w h g i q = elim (dec_lt i k) [
   | no u ↦ let e : k ≡ i = omega arith in subst (LeavesWait f t b n) e g
 ]
 
--- neither flag is set
-neither_set : (a : List ℕ) (i j : ℕ) → (eqb (get_or a i 0) 0 && eqb (get_or a j 0) 0) ≡ true → (get_or a i 0 ≡ 0) × (get_or a j 0 ≡ 0)
-neither_set a i j h = (eqb-true (get_or a i 0) 0 (and_l (eqb (get_or a i 0) 0) _ h), eqb-true (get_or a j 0) 0 (and_r (eqb (get_or a i 0) 0) _ h))
-
-pub asleep : (f : List ℕ) (t : Tables) (a : List ℕ) (k i j : ℕ) → i ≡ 512 + call_method f t k → j ≡ 576 + node_method f t (call_node f t k)
-    → (eqb (get_or a i 0) 0 && eqb (get_or a j 0) 0) ≡ true → Awake f t a Calls k → Waits a (call_node f t k)
-asleep f t a k i j p q h w =
-    let z = neither_set a i j h in
-    ⊎_elim (λ u. u) (λ g. absurd (⊎_elim (λ (u : Waits a (512 + call_method f t k)). omega (arith, subst (λ v. Waits a v) (sym p) u)) (λ (u : Waits a (576 + node_method f t (call_node f t k))). omega (arith, subst (λ v. Waits a v) (sym q) u)) g)) w
-
 -- the steps that are left out
 pub clear_more : (a : List ℕ) (backwards : Bool) (n k j l : ℕ) → Clear a backwards n k j → Clear a backwards n j l → Clear a backwards n k l
 clear_more a backwards n k j l h g i p q = elim (dec_lt i j) [
@@ -126,8 +135,12 @@ clear_more a backwards n k j l h g i p q = elim (dec_lt i j) [
   | no u ↦ g i (omega arith) q
 ]
 
-pub clear_one : (a : List ℕ) (backwards : Bool) (n k j : ℕ) → Clear a backwards n k j → get_or a (turned backwards n j) 0 ≡ 0 → Clear a backwards n k (j + 1)
-clear_one a backwards n k j h e = clear_more a backwards n k j (j + 1) h (λ i p q. let z : i ≡ j = omega arith in rw z e)
+-- left out in eights from k to start, and searched from there
+pub next_found : (a : List ℕ) (backwards : Bool) (n k start : ℕ) (Waiting : ℕ → Type 0) (r : Option ℕ) → (k ≤ start) × (start ≤ n) × Clear a backwards n k start
+    → MatchOption r (Clear a backwards n start n) (λ j. (start ≤ j) × (j < n) × Waiting j × Clear a backwards n start j)
+    → MatchOption r (Clear a backwards n k n) (λ j. (k ≤ j) × (j < n) × Clear a backwards n k j)
+next_found a backwards n k start Waiting None p q = clear_more a backwards n k start n p.2 q
+next_found a backwards n k start Waiting (Some j) p q = (omega (arith, p.0, q.0), q.1, clear_more a backwards n k start j p.2 q.3)
 
 -- eight bytes that are 0 as one number
 module _ (a : List ℕ) (bytes : (i : ℕ) → get_or a i 0 < 256) where

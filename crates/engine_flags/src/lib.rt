@@ -1,15 +1,24 @@
-// The area that is lent to the queue engine: which nodes are to be looked at again. Byte n: node n waits. 512 + m: an exit of method m was
-// lowered. 576 + m: its stock was.
+// The area that is lent to the queue engine: which nodes are to be looked at again. Byte n: node n waits. A flag is a byte and no bool, since the
+// area is memory of the caller of snellair_work_out_queued.
 #![tactic(auto)]
 
-ghost use Rattle.std.specs.Prelude.{◌≡◌, true, ℕ, ◌+◌, ◌<◌, ◌≤◌, length};
+ghost use Rattle.std.specs.Prelude.{◌≡◌, true, ℕ, ◌+◌, ◌<◌, ◌≤◌, length, MatchOption};
 ghost use Rattle.graph_tables.specs.declared.Table.TheVariants.{Calls};
 ghost use Rattle.graph_tables.specs.Rows.{rows_of};
 ghost use Rattle.graph_tables.specs.Fields.{node_method, call_node};
 ghost use Rattle.engine_flags.specs.Flags.{Able, Waits, Woken, Awake, Forgot, AllWait, LeavesWait, EndWaits, CallWaits, RowWaits, PassedOn, Spread, Clear};
 
 use graph_rows::Stretch;
-use graph_tables::{Table, Tables};
+use graph_tables::{Graph, Kind, Table};
+
+// Flag EXITS + m: an exit of method m was lowered.
+const EXITS: usize = 512;
+
+// Flag STOCKS + m: its stock was.
+const STOCKS: usize = 576;
+
+// The end of the flags.
+const FLAGS: usize = 640;
 
 // The flag i is set.
 fn wake(area: &mut [u8], i: usize)
@@ -20,89 +29,84 @@ fn wake(area: &mut [u8], i: usize)
 }
 
 // The node that each row of the stretch leads to.
-fn wake_each(f: &[u8], t: Tables, area: &mut [u8], table: Table, z: Stretch)
-    requires { Able f.now t area.old × (z.to ≤ rows_of t table) }
-    ensures { Woken area.old area.new × AllWait f.now t area.new table z }
+fn wake_each(g: &Graph, area: &mut [u8], table: Table, z: Stretch)
+    requires { Able g.now.file.now g.now.tables area.old × (z.to ≤ rows_of g.now.tables table) }
+    ensures { Woken area.old area.new × AllWait g.now.file.now g.now.tables area.new table z }
 {
-    let end = z.to;
-    let mut j = z.from;
-    while j < end {
-        wake(area, graph_rows::target(f, t, table, j) as usize);
-        j += 1;
+    for j in z.from..z.to {
+        wake(area, graph_rows::target(g, table, j) as usize);
     }
 }
 
 // The exits of the method of node n.
-fn wake_exits(f: &[u8], t: Tables, area: &mut [u8], n: u16)
+fn wake_exits(g: &Graph, area: &mut [u8], n: u16)
     requires { length area.old ≡ 4096 }
-    ensures { Woken area.old area.new × Waits area.new (512 + node_method f.now t n) }
+    ensures { Woken area.old area.new × Waits area.new (512 + node_method g.now.file.now g.now.tables n) }
 {
-    wake(area, 512 + graph_tables::node_method(f, t, n) as usize);
+    wake(area, EXITS + g.node_method(n) as usize);
 }
 
 // Where the exception e leads to at the node n: the catch rows that apply, or the exits of its method.
-fn wake_leaving(f: &[u8], t: Tables, area: &mut [u8], n: u16, e: u16)
-    requires { Able f.now t area.old × (n < t.nodes) }
-    ensures { Woken area.old area.new × LeavesWait f.now t area.new n e }
+fn wake_leaving(g: &Graph, area: &mut [u8], n: u16, e: u16)
+    requires { Able g.now.file.now g.now.tables area.old × (n < g.now.tables.nodes) }
+    ensures { Woken area.old area.new × LeavesWait g.now.file.now g.now.tables area.new n e }
 {
-    let handlers = graph_rows::catches_of(f, t, n, e);
+    let handlers = graph_rows::catches_of(g, n, e);
     if graph_rows::no_rows(handlers) {
-        wake_exits(f, t, area, n);
+        wake_exits(g, area, n);
         return;
     }
-    wake_each(f, t, area, Table::Catches, handlers);
+    wake_each(g, area, Table::Catches, handlers);
 }
 
 // Where any exception does. With no catch rows at all that is the exits of its method.
-fn wake_thrown(f: &[u8], t: Tables, area: &mut [u8], n: u16)
-    requires { Able f.now t area.old × (n < t.nodes) }
-    ensures { Woken area.old area.new × ((e : ℕ) → e < 8 → LeavesWait f.now t area.new n e) }
+fn wake_thrown(g: &Graph, area: &mut [u8], n: u16)
+    requires { Able g.now.file.now g.now.tables area.old × (n < g.now.tables.nodes) }
+    ensures { Woken area.old area.new × ((e : ℕ) → e < 8 → LeavesWait g.now.file.now g.now.tables area.new n e) }
 {
-    if t.catches == 0 {
-        wake_exits(f, t, area, n);
+    if g.tables.catches == 0 {
+        wake_exits(g, area, n);
         return;
     }
-    let mut e = 0;
-    while e < 8 {
-        wake_leaving(f, t, area, n, e);
-        e += 1;
+    for e in 0..8 {
+        wake_leaving(g, area, n, e);
     }
 }
 
 // Where a return or a throw does.
-fn wake_end(f: &[u8], t: Tables, area: &mut [u8], n: u16)
-    requires { Able f.now t area.old × (n < t.nodes) }
-    ensures { Woken area.old area.new × EndWaits f.now t area.new n }
+fn wake_end(g: &Graph, area: &mut [u8], n: u16)
+    requires { Able g.now.file.now g.now.tables area.old × (n < g.now.tables.nodes) }
+    ensures { Woken area.old area.new × EndWaits g.now.file.now g.now.tables area.new n }
 {
-    if graph_tables::node_kind(f, t, n) == graph_tables::RETURN {
-        wake_exits(f, t, area, n);
+    if g.is_kind(n, Kind::Return) {
+        wake_exits(g, area, n);
         return;
     }
-    wake_leaving(f, t, area, n, graph_tables::node_number(f, t, n));
+    wake_leaving(g, area, n, g.node_number(n));
 }
 
 // Where call row k does.
-fn wake_call(f: &[u8], t: Tables, area: &mut [u8], k: u16)
-    requires { Able f.now t area.old × (k < t.calls) }
-    ensures { Woken area.old area.new × CallWaits f.now t area.new k }
+fn wake_call(g: &Graph, area: &mut [u8], k: u16)
+    requires { Able g.now.file.now g.now.tables area.old × (k < g.now.tables.calls) }
+    ensures { Woken area.old area.new × CallWaits g.now.file.now g.now.tables area.new k }
 {
-    let n = graph_tables::call_node(f, t, k);
-    wake_each(f, t, area, Table::Flow, graph_rows::flow_of(f, t, n));
-    wake(area, 576 + graph_tables::call_method(f, t, k) as usize);
-    wake_thrown(f, t, area, n);
+    let n = g.call_node(k);
+    wake_each(g, area, Table::Flow, graph_rows::flow_of(g, n));
+    wake(area, STOCKS + g.call_method(k) as usize);
+    wake_thrown(g, area, n);
 }
 
 // Where row k of a table does.
-pub fn wake_row(f: &[u8], t: Tables, area: &mut [u8], table: Table, k: u16)
-    requires { Able f.now t area.old × (k < rows_of t table) }
-    ensures { Woken area.old area.new × RowWaits f.now t area.new table k }
+pub fn wake_row(g: &Graph, area: &mut [u8], table: Table, k: u16)
+    requires { Able g.now.file.now g.now.tables area.old × (k < rows_of g.now.tables table) }
+    ensures { Woken area.old area.new × RowWaits g.now.file.now g.now.tables area.new table k }
 {
     match table {
         Table::Trailer => {}
-        Table::Methods => wake(area, graph_tables::entry(f, k) as usize),
-        Table::Nodes => wake_end(f, t, area, k),
-        Table::Flow => wake(area, graph_tables::flow_to(f, t, k) as usize),
-        Table::Calls => wake_call(f, t, area, k),
+        Table::Methods => wake(area, g.entry(k) as usize),
+        Table::Nodes => wake_end(g, area, k),
+        Table::Flow => wake(area, g.flow_to(k) as usize),
+        Table::Calls => wake_call(g, area, k),
         Table::Parents => {}
         Table::Catches => {}
         Table::Opening => {}
@@ -110,29 +114,25 @@ pub fn wake_row(f: &[u8], t: Tables, area: &mut [u8], table: Table, k: u16)
 }
 
 // The node of call row k waits if an exit of the method called was lowered, or the stock of its own method.
-fn pass_on(f: &[u8], t: Tables, area: &mut [u8], k: u16)
-    requires { Able f.now t area.old × (k < t.calls) }
-    ensures { Woken area.old area.new × (Awake f.now t area.old Calls k → Waits area.new (call_node f.now t k)) }
+fn pass_on(g: &Graph, area: &mut [u8], k: u16)
+    requires { Able g.now.file.now g.now.tables area.old × (k < g.now.tables.calls) }
+    ensures { Woken area.old area.new × (Awake g.now.file.now g.now.tables area.old Calls k → Waits area.new (call_node g.now.file.now g.now.tables k)) }
 {
-    let n = graph_tables::call_node(f, t, k);
-    let called = 512 + graph_tables::call_method(f, t, k) as usize;
-    let own = 576 + graph_tables::node_method(f, t, n) as usize;
-    if (area[called] == 0) & (area[own] == 0) {
-        return;
+    let n = g.call_node(k);
+    let called = EXITS + g.call_method(k) as usize;
+    let own = STOCKS + g.node_method(n) as usize;
+    if area[called] != 0 || area[own] != 0 {
+        wake(area, n as usize);
     }
-    wake(area, n as usize);
 }
 
 // So for every call row.
-fn pass_all_on(f: &[u8], t: Tables, area: &mut [u8])
-    requires { Able f.now t area.old }
-    ensures { Woken area.old area.new × PassedOn f.now t area.old area.new t.calls }
+fn pass_all_on(g: &Graph, area: &mut [u8])
+    requires { Able g.now.file.now g.now.tables area.old }
+    ensures { Woken area.old area.new × PassedOn g.now.file.now g.now.tables area.old area.new g.now.tables.calls }
 {
-    let n = t.calls;
-    let mut k = 0;
-    while k < n {
-        pass_on(f, t, area, k);
-        k += 1;
+    for k in 0..g.tables.calls {
+        pass_on(g, area, k);
     }
 }
 
@@ -141,19 +141,15 @@ fn forget(area: &mut [u8])
     requires { length area.old ≡ 4096 }
     ensures { Forgot area.old area.new }
 {
-    let mut i = 512;
-    while i < 640 {
-        area[i] = 0;
-        i += 1;
-    }
+    area[EXITS..FLAGS].fill(0);
 }
 
 // The methods' flags are passed on to the calls that they concern.
-pub fn spread(f: &[u8], t: Tables, area: &mut [u8])
-    requires { Able f.now t area.old }
-    ensures { Spread f.now t area.old area.new }
+pub fn spread(g: &Graph, area: &mut [u8])
+    requires { Able g.now.file.now g.now.tables area.old }
+    ensures { Spread g.now.file.now g.now.tables area.old area.new }
 {
-    pass_all_on(f, t, area);
+    pass_all_on(g, area);
     forget(area);
 }
 
@@ -162,11 +158,7 @@ pub fn wake_nodes(area: &mut [u8])
     requires { length area.old ≡ 4096 }
     ensures { (length area.new ≡ 4096) × ((i : ℕ) → i < 512 → Waits area.new i) }
 {
-    let mut i = 0;
-    while i < 512 {
-        wake(area, i);
-        i += 1;
-    }
+    area[..EXITS].fill(1);
 }
 
 // The flags of eight steps from step j on are clear.
@@ -197,16 +189,10 @@ fn past_eights(area: &[u8], backwards: bool, n: u16, k: u16) -> u16
 }
 
 // and then one at a time, up to the first from step k on whose node waits.
-pub fn next(area: &[u8], backwards: bool, n: u16, k: u16) -> u16
+pub fn next(area: &[u8], backwards: bool, n: u16, k: u16) -> Option<u16>
     requires { (k ≤ n) × (n ≤ length area.now) × (n ≤ 512) }
-    ensures { (k ≤ result) × (result ≤ n) × Clear area.now backwards n k result }
+    ensures { MatchOption result (Clear area.now backwards n k n) (λ j. (k ≤ j) × (j < n) × Clear area.now backwards n k j) }
 {
-    let mut j = past_eights(area, backwards, n, k);
-    while j < n {
-        if area[rule_ask::at_step(backwards, n, j) as usize] != 0 {
-            return j;
-        }
-        j += 1;
-    }
-    j
+    let start = past_eights(area, backwards, n, k);
+    (start..n).find(|j| area[rule_ask::at_step(backwards, n, *j) as usize] != 0)
 }

@@ -17,10 +17,10 @@ use Rattle.graph_tables.specs.Trailer.{tables_of}
 use Rattle.graph.specs.Judge.{judge_of}
 use Rattle.graph.proofs.Whole.{limits}
 use Rattle.graph_nodes.proofs.Setting.{setting}
-use Rattle.sheet_layout.specs.Layout.{stock_size, effect_size, method_at, exit_at, node_at, sheet_bytes, block_count, is_stock, block_at}
+use Rattle.sheet_layout.specs.Layout.{stock_size, effect_size, method_at, exit_at, node_at, sheet_bytes, block_count, block_size, is_stock, block_at}
 use Rattle.sheet_layout.proofs.Blocks.{stock_size_is, effect_size_is, size_pos, block_method, block_exit, block_node}
 use Rattle.sheet.specs.Read.{mark_at, stock_at, effect_at, marked}
-use Rattle.words.specs.Write.{splice}
+use Rattle.words.specs.Write.{splice, bytes_of}
 use Rattle.sheet.specs.Write.{stock_word, effect_word, stock_bytes, effect_bytes, blanked}
 use Rattle.sheet.proofs.Back.{stock_marked, stock_back, effect_marked, effect_back, blank_length, blank_word, stock_words, effect_words}
 use Rattle.sheet.proofs.Potential.{block_fits}
@@ -35,7 +35,7 @@ use Rattle.engine_lower.proofs.Numbers.{shape, method_stock, node_effect_lem, ex
 use Rattle.engine_lower.proofs.Stands.{both_stands, lower_stands, block_stands, stock_block_stands}
 use Rattle.engine_lower.proofs.Rank.{rank_effect, rank_stock, rank_unmarked, effect_less, stock_less}
 use Rattle.words.proofs.Bytes.{blank_bytes}
-use Rattle.engine_lower.proofs.Hits.{EffectHit, StockHit, both_hit, lower_hit, effect_said, stock_said, attained_hits}
+use Rattle.engine_lower.proofs.Hits.{BlockHit, EffectHit, StockHit, both_hit, lower_hit, effect_said, stock_said, attained_hits}
 use Rattle.engine_lower.proofs.Put.{put_good, put_falls}
 
 module _ (f : List ℕ) (pass : judge_of f ≡ Pass) where
@@ -55,6 +55,20 @@ module _ (f : List ℕ) (pass : judge_of f ≡ Pass) where
     abbrev w : ℕ
     w = block_at (shape f) b
 
+    -- n words are written into it
+    put_lowered : (g : ℕ → ℕ) (n : ℕ) → block_size (shape f) b ≡ n → ((k : ℕ) → k < n → g k < 65536) → ill_block (splice s (2 * w) (bytes_of g n)) (shape f) b ≡ false
+        → BlockHit f pass (splice s (2 * w) (bytes_of g n)) b → rank_of (shape f) b (splice s (2 * w) (bytes_of g n)) < rank_of (shape f) b s → Lowered s (splice s (2 * w) (bytes_of g n))
+    put_lowered g n size small ill hit less = ((rw size at (put_good f pass s G b l g)) small ill hit, (rw size at (put_falls f pass s G b l g)) less)
+
+    -- v is asked, and it gets v, or what it says lowered to v
+    lowered_done : {V : Type 0} (bytes : V → List ℕ) (met : Bool) (lower v : V) → (marked s w ≡ true → met ≡ false → Lowered s (splice s (2 * w) (bytes lower)))
+        → (marked s w ≡ false → Lowered s (splice s (2 * w) (bytes v))) → Done f pass s (cond met s (splice s (2 * w) (bytes (cond (marked s w) lower v)))) met
+    lowered_done bytes met lower v p q = unless s G met _ (go (marked s w) refl)
+      where
+        go : (m : Bool) → marked s w ≡ m → met ≡ false → Lowered s (splice s (2 * w) (bytes (cond m lower v)))
+        go true m u = p m u
+        go false m u = q m
+
     -- of a node or an exit
     module _ (q : is_stock (shape f) b ≡ false) where
       abbrev said : Effect
@@ -66,24 +80,20 @@ module _ (f : List ℕ) (pass : judge_of f ≡ Pass) where
           let r = splice s (2 * w) (effect_bytes e types) in
           let fits : 2 * (w + effect_size types) ≤ length s = rw size at (block_fits (shape f) s G.long b l (effect_word e)) in
           let mark : mark_at r w ≡ 1 = effect_marked s types w e fits in
-          let back : effect_at r types w ≡ e = effect_back s types w e fits st.fits in (
-            (rw size at (put_good f pass s G b l (effect_word e))) (effect_words types (limits f pass).types e st.fits)
-                (effect_formed r (shape f) b q mark (rw back st.normal))
-                ((effect_said f pass r b q).1 (λ m. rw back h)),
-            (rw size at (put_falls f pass s G b l (effect_word e))) (omega (arith, rank_effect (shape f) b r q mark ∙ ap pot_of back)),
-          )
+          let back : effect_at r types w ≡ e = effect_back s types w e fits st.fits in
+          put_lowered (effect_word e) (effect_size types) size (effect_words types (limits f pass).types e st.fits) (effect_formed r (shape f) b q mark (rw back st.normal))
+          ((effect_said f pass r b q).1 (λ m. rw back h)) (omega (arith, less, rank_effect (shape f) b r q mark ∙ ap pot_of back))
 
       effect_done : (e : Effect) → Stands types e → EffectHit f pass b e → Done f pass s (effect_to s (shape f) w e) (effect_under s (shape f) w e)
       unfolding effect_to effect_under
-      effect_done e st h = unless s G (effect_under s (shape f) w e) _ (go (marked s w) refl)
-        where
-          go : (m : Bool) → marked s w ≡ m → effect_under s (shape f) w e ≡ false → Lowered s (splice s (2 * w) (effect_bytes (cond m (both_of said e) e) types))
-          go true p u =
-              let mark = mark_true s w p in
-              effect_put (both_of said e) (both_stands types said e (block_stands (shape f) s G.whole b l mark q) st)
-              (both_hit f pass b said e ((effect_said f pass s b q).0 (attained_hits f pass s G.attained b) mark) h)
-              (omega (arith, rank_effect (shape f) b s q mark, both_falls said e (not_both (marked s w) _ u p)))
-          go false p u = effect_put e st h (omega (arith, rank_unmarked (shape f) b s p, effect_less types e st.fits))
+      effect_done e st h =
+          lowered_done (λ v. effect_bytes v types) (effect_under s (shape f) w e) (both_of said e) e
+          (λ p u.
+          let mark = mark_true s w p in
+          effect_put (both_of said e) (both_stands types said e (block_stands (shape f) s G.whole b l mark q) st)
+          (both_hit f pass b said e ((effect_said f pass s b q).0 (attained_hits f pass s G.attained b) mark) h)
+          (omega (arith, rank_effect (shape f) b s q mark, both_falls said e (not_both (marked s w) _ u p))))
+          (λ p. effect_put e st h (omega (arith, rank_unmarked (shape f) b s p, effect_less types e st.fits)))
 
     -- of a method
     module _ (q : is_stock (shape f) b ≡ true) where
@@ -96,24 +106,20 @@ module _ (f : List ℕ) (pass : judge_of f ≡ Pass) where
           let r = splice s (2 * w) (stock_bytes h types) in
           let fits : 2 * (w + stock_size types) ≤ length s = rw size at (block_fits (shape f) s G.long b l (stock_word h)) in
           let mark : mark_at r w ≡ 1 = stock_marked s types w h fits in
-          let back : stock_at r types w ≡ h = stock_back s types w h fits st.fits in (
-            (rw size at (put_good f pass s G b l (stock_word h))) (stock_words types (limits f pass).types h st.fits)
-                (stock_formed r (shape f) b q mark (rw back st.counts))
-                ((stock_said f pass r b q).1 (λ m. rw back hit)),
-            (rw size at (put_falls f pass s G b l (stock_word h))) (omega (arith, rank_stock (shape f) b r q mark ∙ ap pot_stock back)),
-          )
+          let back : stock_at r types w ≡ h = stock_back s types w h fits st.fits in
+          put_lowered (stock_word h) (stock_size types) size (stock_words types (limits f pass).types h st.fits) (stock_formed r (shape f) b q mark (rw back st.counts))
+          ((stock_said f pass r b q).1 (λ m. rw back hit)) (omega (arith, less, rank_stock (shape f) b r q mark ∙ ap pot_stock back))
 
       stock_done : (h : Stock) → StockStands types h → StockHit f pass b h → Done f pass s (stock_to s (shape f) w h) (stock_under s (shape f) w h)
       unfolding stock_to stock_under
-      stock_done h st hit = unless s G (stock_under s (shape f) w h) _ (go (marked s w) refl)
-        where
-          go : (m : Bool) → marked s w ≡ m → stock_under s (shape f) w h ≡ false → Lowered s (splice s (2 * w) (stock_bytes (cond m (lower_of held h) h) types))
-          go true p u =
-              let mark = mark_true s w p in
-              stock_put (lower_of held h) (lower_stands types held h (stock_block_stands (shape f) s G.whole b l mark q) st)
-              (lower_hit f pass b held h ((stock_said f pass s b q).0 (attained_hits f pass s G.attained b) mark) hit)
-              (omega (arith, rank_stock (shape f) b s q mark, lower_falls held h (not_both (marked s w) _ u p)))
-          go false p u = stock_put h st hit (omega (arith, rank_unmarked (shape f) b s p, stock_less types h st.fits))
+      stock_done h st hit =
+          lowered_done (λ v. stock_bytes v types) (stock_under s (shape f) w h) (lower_of held h) h
+          (λ p u.
+          let mark = mark_true s w p in
+          stock_put (lower_of held h) (lower_stands types held h (stock_block_stands (shape f) s G.whole b l mark q) st)
+          (lower_hit f pass b held h ((stock_said f pass s b q).0 (attained_hits f pass s G.attained b) mark) hit)
+          (omega (arith, rank_stock (shape f) b s q mark, lower_falls held h (not_both (marked s w) _ u p))))
+          (λ p. stock_put h st hit (omega (arith, rank_unmarked (shape f) b s p, stock_less types h st.fits)))
 
   -- the block of a node, of an exit, of a method
   module _ (s : List ℕ) (G : Good f pass s) where

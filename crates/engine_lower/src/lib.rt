@@ -9,6 +9,8 @@ ghost use Rattle.engine_lower.specs.Lower.{effect_to, stock_to};
 use effect::{Effect, Stock};
 use sheet_layout::Shape;
 
+// Two functions: an effect is tested and lowered word by word where it stands, and a stock is read and written whole, so they share no step.
+
 // The block at w gets mark 1 and an effect at most e. Answers whether anything was written.
 pub fn effect_to(s: &mut [u8], x: Shape, w: usize, e: Effect) -> bool
     requires { (2 * (w + effect_size x.types) ≤ length s.old) × (x.types ≤ 6) }
@@ -26,14 +28,14 @@ pub fn stock_to(s: &mut [u8], x: Shape, w: usize, h: Stock) -> bool
     requires { (2 * (w + stock_size x.types) ≤ length s.old) × (x.types ≤ 6) }
     ensures { (result ≡ not (stock_under s.old x w h)) × (s.new ≡ stock_to s.old x w h) }
 {
+    let mut most = h;
     if sheet::is_marked(s, w) {
         let old = sheet::stock(s, x.types, w);
         if effect_order::stock_at_most(old, h) {
             return false;
         }
-        sheet::write_stock(s, x.types, w, effect_order::lower(old, h));
-        return true;
+        most = effect_order::lower(old, h);
     }
-    sheet::write_stock(s, x.types, w, h);
+    sheet::write_stock(s, x.types, w, most);
     true
 }

@@ -1,8 +1,8 @@
 -- Rules 1 and 2, done on a blank sheet: what they ask does not depend on the sheet, so once met it stays met.
 --   entered_start, entered_more
 use Prim.Native.Nat.{ℕ, ◌+◌, ◌<◌}
-use mathlib.Core.Path.{◌≡◌, refl, sym, ap, subst, ◌∙◌}
-use mathlib.Core.Bool.{Bool, true, false}
+use mathlib.Core.Path.{◌≡◌, sym, ap, subst, ◌∙◌}
+use mathlib.Core.Bool.{Bool, true}
 use mathlib.Core.List.{List}
 use native.Mathlib.Decide.{dec_lt}
 use native.Mathlib.Omega.{arith}
@@ -21,11 +21,11 @@ use Rattle.effect.specs.Whole.{nothing_done}
 use Rattle.graph_tables.specs.Fields.{entry_of}
 use Rattle.graph_nodes.specs.Nodes.{opening_in}
 use Rattle.rule_ask.specs.Walk.{Ask, of_effect, of_stock, meets, start_walk, entry_walk}
-use Rattle.rule_ask.proofs.Asks.{RowAsks, at_entry, Asks, at_start, of_row}
+use Rattle.rule_ask.proofs.Asks.{at_entry, at_start, of_row}
 use Rattle.engine_lower.proofs.Good.{Good}
 use Rattle.engine_lower.proofs.Block.{blank_good}
 use Rattle.rule_ready.specs.Ready.{Ready}
-use Rattle.engine_row.specs.Lowers.{sheet_of, wrote_of, lowered_to, lowers}
+use Rattle.engine_row.specs.Lowers.{sheet_of, lowered_to, lowers}
 use Rattle.engine_row.proofs.Brought.{Brought, asks_brought}
 use Rattle.engine_row.proofs.Done.{brought_done}
 use Rattle.engine_row.proofs.Kept.{placed, met_kept, met_own}

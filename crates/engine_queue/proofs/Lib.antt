@@ -2,3 +2,4 @@ pub mod Stays
 pub mod Step
 pub mod Moves
 pub mod Enters
+mod Ranges

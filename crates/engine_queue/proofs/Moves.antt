@@ -3,7 +3,7 @@
 use Prim.Native.Nat.{ℕ, ◌+◌, ◌≤◌, ◌<◌}
 use mathlib.Core.Path.{◌≡◌, refl, sym, ap, subst, ◌∙◌}
 use mathlib.Core.Logic.{◌⊎◌, inl, inr, ⊎_elim}
-use mathlib.Core.Bool.{Bool, true, false, ◌&&◌, ◌||◌, true≢false, false≢true}
+use mathlib.Core.Bool.{Bool, true, false, ◌&&◌, ◌||◌, and-true, true≢false, false≢true}
 use mathlib.Core.List.{List}
 use native.Mathlib.Decide.{ℕ_discrete, dec_lt}
 use native.Mathlib.Omega.{arith}
@@ -27,7 +27,6 @@ use Rattle.rule_ask.specs.Gives.{turned, goes_in}
 use Rattle.rule_ask.specs.Walk.{Ask, meets, row_walk}
 use Rattle.rule_ask.proofs.Asks.{RowAsks, at_entry, along_flow, at_return, at_throw, of_call, Asks, at_start, of_row}
 use Rattle.rule_ask.proofs.Turned.{turned_inside, turned_twice}
-use Rattle.engine_lower.proofs.Good.{height}
 use Rattle.rule_ready.specs.Ready.{Ready}
 use Rattle.engine_row.specs.Lowers.{sheet_of, lowers}
 use Rattle.rule_ready.proofs.Inside.{limit, sorted, method_of, call_node_inside, call_method_inside}
@@ -323,18 +322,19 @@ module _ {f : List ℕ} {t : Tables} {x : Shape} where
               (z.0, get_or-set_same b n 0 0 (omega (arith, q.wide, (limit q.ready).nodes)), λ i ne. get_or-set_other b n i 0 0 ne ∙ ap (λ v. get_or v i 0) z.1);
         }
 
-    -- and else waits no longer
+    -- where no row leads back, or nothing was written, it waits no longer
+    pub plain_apart : ((j : ℕ) → (flow_of f t n).from ≤ j → j < (flow_of f t n).to → flow_to f t j ≡ n → ⊥) → Visited f t x n s a r (set b n 0) w
+    plain_apart g =
+        let q = m.moved.queue in
+        cleared (plain_met n h q (m.flow refl n l (λ j o u. let z = of_stretch f t Flow (sorted q.ready Flow) n j (o, u) in (z.0, z.1, g j o u))).1)
+
+    pub plain_idle : w ≡ false → Visited f t x n s a r (set b n 0) w
+    plain_idle e = cleared (plain_met n h m.moved.queue (λ j o u. subst (λ y. Met f t x y Flow j) (sym (m.moved.idle e).0) (m.met e j o u)))
+
+    -- so it is where no row leads back or nothing was written
     pub plain_done : (back : Bool) → (back ≡ false → (j : ℕ) → (flow_of f t n).from ≤ j → j < (flow_of f t n).to → flow_to f t j ≡ n → ⊥) → (w && back) ≡ false → Visited f t x n s a r (set b n 0) w
-    plain_done back g e = go w back e m g
-      where
-        go : (v u : Bool) → (v && u) ≡ false → StretchMoved f t x Flow (flow_of f t n).from (flow_of f t n).to s a r b v
-            → (u ≡ false → (j : ℕ) → (flow_of f t n).from ≤ j → j < (flow_of f t n).to → flow_to f t j ≡ n → ⊥) → Visited f t x n s a r (set b n 0) w
-        go true true e p g = absurd (true≢false e)
-        go true false e p g =
-            cleared (plain_met n h p.moved.queue (p.flow refl n l (λ j o u.
-            let z = of_stretch f t Flow (sorted p.moved.queue.ready Flow) n j (o, u) in (z.0, z.1, g refl j o u))).1)
-        go false u e p g =
-            cleared (plain_met n h p.moved.queue (λ j o v. subst (λ y. Met f t x y Flow j) (sym (p.moved.idle refl).0) (p.met refl j o v)))
+    plain_done false g e = plain_apart (g refl)
+    plain_done true g e = plain_idle (sym (and-true w) ∙ e)
 
   -- node n is visited
   module _ {s a r b : List ℕ} (n : ℕ) (l : n < t.nodes) (w : Bool) (m : NodeMoved f t x n s a r b w) where
@@ -356,9 +356,6 @@ module _ {f : List ℕ} {t : Tables} {x : Shape} where
   passing_on {b = b} backwards {k} l w p h =
       record { queue = p.queue; falls = p.falls; idle = λ e. ((p.idle e).0, λ j m. clear_more b backwards t.nodes 0 k l (λ i u v. (p.idle e).1 i v) h j (omega arith) m, (p.idle e).2) }
 
-  -- as far as there are nodes, and methods
-  pub passing_all : {s a r b : List ℕ} (backwards : Bool) {k : ℕ} (w : Bool) → t.nodes ≤ k → Passing f t x backwards k s a r b w → Passing f t x backwards t.nodes s a r b w
-  passing_all backwards w l p = record { queue = p.queue; falls = p.falls; idle = λ e. ((p.idle e).0, λ j h. (p.idle e).1 j (omega arith), (p.idle e).2) }
-
+  -- as far as there are methods
   pub entered_all : {m : ℕ} {s : List ℕ} → t.methods ≤ m → Entered f t x m s → Entered f t x t.methods s
   entered_all l E = record { ready = E.ready; passed = E.passed; good = E.good; start = E.start; entries = λ k h. E.entries k (omega arith) }

@@ -1,13 +1,11 @@
 -- What a row asks depends on the blocks that it comes from: where these stand as they were, it asks the same.
 --   stays
-use Prim.Native.Nat.{ℕ, suc, ◌+◌, ◌<◌}
-use mathlib.Core.Path.{◌≡◌, refl, sym, ap, subst, ◌∙◌}
-use mathlib.Core.Bool.{Bool, true, ◌&&◌}
+use Prim.Native.Nat.{ℕ, ◌+◌, ◌<◌}
+use mathlib.Core.Path.{◌≡◌, sym, ap, subst, ◌∙◌}
+use mathlib.Core.Bool.{◌&&◌}
 use mathlib.Core.List.{List}
 use native.Mathlib.Omega.{arith}
-use native.Mathlib.Numerals.{one-add}
 use lib.Dec.{leb, eqb}
-use Rattle.effect.specs.declared.Effect.{Effect}
 use Rattle.effect.specs.Whole.{then_of, apply_of}
 use Rattle.model.specs.Stocks.{step_of}
 use Rattle.rule_rounds.specs.Rounds.{rounds_of}
@@ -19,7 +17,7 @@ use Rattle.graph_tables.specs.Fields.{node_method, node_kind, node_count, node_n
 use Rattle.graph_nodes.specs.Nodes.{does_in}
 use Rattle.sheet_layout.specs.declared.Shape.{Shape}
 use Rattle.sheet_layout.specs.Layout.{stock_size, effect_size, method_at, exit_at, node_at}
-use Rattle.sheet.specs.Read.{SameWords, marked, stock_at, effect_at}
+use Rattle.sheet.specs.Read.{SameWords, marked}
 use Rattle.sheet.proofs.Same.{mark_same, stock_same, effect_same}
 use Rattle.rule_ask.specs.declared.Gives.{Gives}
 use Rattle.rule_ask.specs.Gives.{node_effect, exit_effect, goes_in, stepped_in, called_in, thrown_in}

@@ -1,6 +1,6 @@
 -- A row that wrote something keeps what the queue engine keeps, if whatever it leads to waits afterwards.
 --   row_wrote, row_idle
-use Prim.Native.Nat.{ℕ, zero, suc, ◌+◌, ◌*◌, ◌≤◌, ◌<◌}
+use Prim.Native.Nat.{ℕ, zero, suc, ◌+◌, ◌*◌, ◌<◌}
 use mathlib.Core.Path.{◌≡◌, refl, sym, ap, subst, ◌∙◌}
 use mathlib.Core.Logic.{◌⊎◌, inl, inr, ⊎_elim}
 use mathlib.Core.Bool.{Bool, true, false, not, ◌||◌, true≢false}
@@ -8,7 +8,6 @@ use mathlib.Core.List.{List}
 use native.Mathlib.Decide.{ℕ_discrete, dec_lt}
 use native.Mathlib.Omega.{arith}
 use lib.Dec.{eqb}
-use lib.ListN.{length}
 use borrow.Author.Tests.{eqb-true}
 use Rattle.answer.specs.declared.Answer.TheVariants.{Pass}
 use Rattle.graph_tables.specs.declared.Tables.{Tables}
@@ -26,12 +25,11 @@ use Rattle.graph.proofs.Passed.{Judged, judged}
 use Rattle.sheet_layout.specs.declared.Shape.{Shape}
 use Rattle.sheet_layout.specs.Layout.{stock_size, effect_size, method_at, exit_at, node_at, block_count, block_size, block_at}
 use Rattle.sheet_layout.proofs.Blocks.{apart, size_pos, block_method, method_size, block_exit, exit_size, block_node, node_size}
-use Rattle.graph_nodes.specs.Nodes.{opening_in}
 use Rattle.sheet.specs.Read.{SameWords}
 use Rattle.effect.specs.declared.Effect.{Effect}
 use Rattle.rule_ask.specs.Gives.{node_effect, called_in, thrown_in}
-use Rattle.rule_ask.specs.Walk.{Ask, of_effect, of_stock, block_of, meets, flow_walk, row_walk}
-use Rattle.rule_ask.proofs.Asks.{LeavingAsks, to_handler, to_exit, CallAsks, after_call, into_call, from_call, RowAsks, at_entry, along_flow, at_return, at_throw, of_call, Asks, at_start, of_row}
+use Rattle.rule_ask.specs.Walk.{Ask, block_of, meets, flow_walk, row_walk}
+use Rattle.rule_ask.proofs.Asks.{LeavingAsks, to_handler, to_exit, CallAsks, after_call, into_call, from_call, RowAsks, at_entry, along_flow, at_return, at_throw, of_call, at_start, of_row}
 use Rattle.rule_ask.proofs.Keeps.{own_keeps}
 use Rattle.rule_ask.proofs.Shows.{row_shows}
 use Rattle.engine_lower.proofs.Good.{Good, Done, height}
@@ -42,7 +40,7 @@ use Rattle.engine_row.proofs.Done.{brought_done, done_next}
 use Rattle.engine_row.proofs.Kept.{Placed, effect_at_lem, stock_at_lem, placed, others_same, met_kept, met_own}
 use Rattle.engine_row.proofs.Still.{Wrote, Still, stay, hit, step}
 use Rattle.rule_ready.proofs.Inside.{still_ready}
-use Rattle.engine_flags.specs.Flags.{Waits, Woken, Awake, AllWait, LeavesWait, EndWaits, CallWaits, RowWaits}
+use Rattle.engine_flags.specs.Flags.{Waits, Woken, Awake, LeavesWait, CallWaits, RowWaits}
 use Rattle.engine_queue.specs.Queue.{Met, Queue, NodeStays, FlowMoved}
 use Rattle.engine_queue.proofs.Stays.{NodeSame, ExitSame, MethodSame, RowSame, stays}
 

@@ -42,9 +42,8 @@ use Rattle.graph_nodes.proofs.Setting.{setting}
 use Rattle.sheet_layout.specs.declared.Shape.{Shape}
 use Rattle.sheet_layout.specs.Layout.{method_at, exit_at, node_at}
 use Rattle.sheet.specs.Read.{marked}
-use Rattle.sheet.proofs.Marked.{mark_true, true_mark}
+use Rattle.sheet.proofs.Marked.{mark_true}
 use Rattle.sheet_formed.specs.Sheet.{sheet_in}
-use Rattle.rule_ask.specs.declared.Gives.{Gives}
 use Rattle.rule_ask.specs.Gives.{goes_in, stepped_in, called_in}
 use Rattle.rule_ask.specs.Walk.{Ask, of_effect, of_stock}
 use Rattle.rule_ask.proofs.Given as goal

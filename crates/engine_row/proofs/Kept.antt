@@ -2,7 +2,7 @@
 -- is met.
 --   placed, others_same, met_kept, met_own
 use Prim.Native.Nat.{ℕ, ◌+◌, ◌*◌, ◌≤◌, ◌<◌}
-use mathlib.Core.Path.{◌≡◌, refl, sym, ap, subst, ◌∙◌}
+use mathlib.Core.Path.{◌≡◌, refl, sym, subst, ◌∙◌}
 use mathlib.Core.Logic.{◌⊎◌, inl, inr, ⊎_elim}
 use mathlib.Core.Bool.{Bool, true, false, cond, ◌&&◌, true≢false}
 use mathlib.Core.List.{List}
@@ -23,9 +23,9 @@ use Rattle.graph_tables.specs.Trailer.{tables_of}
 use Rattle.graph.specs.Judge.{judge_of}
 use Rattle.graph.specs.Judgement.{shape_of}
 use Rattle.sheet_layout.specs.declared.Shape.{Shape}
-use Rattle.sheet_layout.specs.Layout.{stock_size, effect_size, method_at, exit_at, node_at, block_count, block_size, block_at, is_stock}
+use Rattle.sheet_layout.specs.Layout.{stock_size, effect_size, block_count, block_size, block_at, is_stock}
 use Rattle.sheet_layout.proofs.Blocks.{stock_size_is, effect_size_is, size_pos, block_method, block_exit, block_node}
-use Rattle.sheet.specs.Read.{SameWords, mark_at, stock_at, effect_at, marked}
+use Rattle.sheet.specs.Read.{SameWords, stock_at, effect_at, marked}
 use Rattle.sheet.specs.Write.{stock_word, effect_word, stock_bytes, effect_bytes}
 use Rattle.sheet.specs.Under.{effect_under, stock_under}
 use Rattle.sheet.proofs.Same.{mark_same, stock_same, effect_same}

@@ -1,8 +1,8 @@
 -- What is met is not written: of a walk that wrote nothing, the sheet is still what it was, and everything asked was met.
---   stay, hit, step: for `sheet_shows` and its parts
+--   stay, hit, step: for `sheet_shows` and its parts; lowers_met
 use mathlib.Core.Path.{◌≡◌, refl}
 use mathlib.Core.Logic.{◌⊎◌, inl, inr}
-use mathlib.Core.Bool.{Bool, true, false}
+use mathlib.Core.Bool.{Bool, true, false, ◌||◌}
 use mathlib.Core.List.{List}
 use Prim.Native.Nat.{ℕ}
 use Rattle.sheet_layout.specs.declared.Shape.{Shape}
@@ -22,6 +22,14 @@ module _ (x : Shape) (s : List ℕ) where
   unfolding effect_to stock_to
   met_stays (of_effect r w e) m = rw m refl
   met_stays (of_stock r w h) m = rw m refl
+
+  pub lowers_met : (a : Ask) (wrote : Bool) → meets x s a ≡ true → (s, wrote) ≡ lowers x a (s, wrote)
+  unfolding lowers
+  lowers_met a wrote m = rw (met_stays a m, m) (λ i. (s, go wrote i))
+    where
+      go : (b : Bool) → b ≡ (b || false)
+      go true = refl
+      go false = refl
 
   pub stay : (a : Ask) (z : State) → Wrote z → Wrote (lowers x a z)
   unfolding lowers

@@ -1,17 +1,21 @@
 // The judgement of a graph file: answers 1 to 9, 15 and 17.
 #![tactic(auto)]
 
-ghost use Rattle.std.specs.Prelude.{◌≡◌};
+ghost use Rattle.std.specs.Prelude.{◌≡◌, ◌<◌, IfOk, IfErr};
+ghost use Rattle.answer.specs.Number.{number_of};
 ghost use Rattle.words.specs.Lowest.{lowest};
+ghost use Rattle.graph_tables.specs.Trailer.{tables_of};
 ghost use Rattle.graph_refuse.specs.Bad.{uncalled};
 ghost use Rattle.graph_rows.specs.Rows.{Sorted};
 ghost use Rattle.sheet_layout.specs.Layout.{Within};
-ghost use Rattle.graph.specs.Judge.{judge_rows, judge_in};
-ghost use Rattle.graph.specs.Judgement.{shape_for, judged_of};
+ghost use Rattle.answer.specs.declared.Answer.TheVariants.{Pass};
+ghost use Rattle.graph_scan.specs.Scan.{refusal_or};
+ghost use Rattle.graph.specs.Judge.{judge_rows, judge_in, judge_of};
+ghost use Rattle.graph.specs.Judgement.{shape_of, shape_for, judged_of};
 ghost use Rattle.graph.specs.Meaning.{Judges};
 
 use answer::Answer;
-use graph_tables::{Table, Tables};
+use graph_tables::{Graph, Kind, Table, Tables};
 use sheet_layout::Shape;
 
 // What is found of a file by looking at it once: the answer 1 to 9, 15, 17 or 0, its tables, and the shape of its sheet.
@@ -23,73 +27,68 @@ pub struct Judgement {
 }
 
 // The node is a call and no call row names it: in a sorted table its stretch is empty.
-fn uncalled(f: &[u8], t: Tables, n: u16) -> bool
-    requires { Sorted f.now t }
-    ensures { result ≡ uncalled f.now t n }
+fn uncalled(g: &Graph, n: u16) -> bool
+    requires { Sorted g.now.file.now g.now.tables }
+    ensures { result ≡ uncalled g.now.file.now g.now.tables n }
 {
-    if graph_tables::node_kind(f, t, n) != graph_tables::CALL {
-        return false;
+    if g.is_kind(n, Kind::Call) {
+        return graph_rows::no_rows(graph_rows::calls_of(g, n));
     }
-    graph_rows::no_rows(graph_rows::calls_of(f, t, n))
+    false
 }
 
-// The lowest such node, or how many nodes there are.
-fn lowest_uncalled(f: &[u8], t: Tables) -> u16
-    requires { Sorted f.now t }
-    ensures { result ≡ lowest (uncalled f.now t) t.nodes }
+// The lowest such node, or how many nodes there are, which is what `lowest` gives for none.
+fn lowest_uncalled(g: &Graph) -> u16
+    requires { Sorted g.now.file.now g.now.tables }
+    ensures { result ≡ lowest (uncalled g.now.file.now g.now.tables) g.now.tables.nodes }
 {
-    let mut n = 0;
-    while n < t.nodes {
-        if uncalled(f, t, n) {
-            return n;
-        }
-        n += 1;
-    }
-    t.nodes
+    (0..g.tables.nodes)
+        .find(|n| uncalled(g, *n))
+        .unwrap_or(g.tables.nodes)
 }
 
 // Calls without a row are looked for where the first stage refuses nothing: the tables are sorted then.
-fn judge_rows(f: &[u8], t: Tables) -> Answer
-    ensures { result ≡ judge_rows f.now t }
+fn judge_rows(g: &Graph) -> Result<(), Answer>
+    ensures first { judge_rows g.now.file.now g.now.tables ≡ refusal_or result Pass }
+    ensures refusal { IfErr result (λ a. 0 < number_of a) }
 {
-    let first = graph_scan::judge_tables(f, t);
-    if answer::number(first) != 0 {
-        return first;
+    graph_scan::pass_tables(g)?;
+    let n = lowest_uncalled(g);
+    if n < g.tables.nodes {
+        return Err(graph_places::no_call_row_at(g, n));
     }
-    let n = lowest_uncalled(f, t);
-    if n < t.nodes {
-        return graph_places::no_call_row_at(f, t, n);
-    }
-    graph_scan::refused(f, t, Table::Opening, Answer::Pass)
+    graph_scan::pass_table(g, Table::Opening)
 }
 
-fn judge(f: &[u8], t: Tables) -> Answer
-    ensures { result ≡ judge_in f.now t }
+fn judge(g: &Graph) -> Result<(), Answer>
+    ensures first { judge_in g.now.file.now g.now.tables ≡ refusal_or result Pass }
+    ensures refusal { IfErr result (λ a. 0 < number_of a) }
 {
-    if f.len() < 14 {
-        return Answer::TooShort;
+    if g.file.len() < 14 {
+        return Err(Answer::TooShort);
     }
-    if graph_refuse::length_bad(f, t) {
-        return graph_scan::refused(f, t, Table::Trailer, Answer::BadLength);
+    graph_scan::pass_table(g, Table::Trailer)?;
+    if graph_refuse::length_bad(g) {
+        return Err(Answer::BadLength);
     }
-    graph_scan::refused(f, t, Table::Trailer, judge_rows(f, t))
+    judge_rows(g)
 }
 
 // The shape of the sheet. A file that is refused has no sheet: no methods, nodes or types.
 fn shape(a: Answer, t: Tables) -> Shape
     ensures { result ≡ shape_for a t }
 {
-    if answer::number(a) == 0 {
-        return Shape {
+    match a {
+        Answer::Pass => Shape {
             methods: t.methods,
             nodes: t.nodes,
             types: t.types,
-        };
-    }
-    Shape {
-        methods: 0,
-        nodes: 0,
-        types: 0,
+        },
+        _ => Shape {
+            methods: 0,
+            nodes: 0,
+            types: 0,
+        },
     }
 }
 
@@ -99,12 +98,38 @@ pub fn judged(f: &[u8]) -> Judgement
     ensures means { Judges f.now result.answer }
     ensures within { Within result.shape }
 {
-    let t = graph_trailer::read(f);
-    let a = judge(f, t);
-    let x = shape(a, t);
+    let tables = graph_trailer::read(f);
+    let g = Graph { file: f, tables };
+    let answer = judge(&g).err().unwrap_or(Answer::Pass);
     Judgement {
-        answer: a,
-        tables: t,
-        shape: x,
+        answer,
+        tables,
+        shape: shape(answer, tables),
     }
+}
+
+// A graph file that passes, and the shape of its sheet.
+#[derive(Clone, Copy)]
+pub struct PassedGraph<'a> {
+    pub graph: Graph<'a>,
+    pub shape: Shape,
+    ghost passes: { judge_of graph.file.now ≡ Pass },
+    ghost tables_are: { graph.tables ≡ tables_of graph.file.now },
+    ghost shape_is: { shape ≡ shape_of graph.tables },
+}
+
+// The file as one that passes, or its refusal.
+pub fn pass(f: &[u8]) -> Result<PassedGraph<'_>, Answer>
+    ensures passes { IfOk result (λ p. p.graph.file.now ≡ f.now) }
+    ensures refusal { IfErr result (λ a. (judge_of f.now ≡ a) × (0 < number_of a)) }
+{
+    let tables = graph_trailer::read(f);
+    let graph = Graph { file: f, tables };
+    judge(&graph)?;
+    let shape = Shape {
+        methods: tables.methods,
+        nodes: tables.nodes,
+        types: tables.types,
+    };
+    Ok(PassedGraph { graph, shape })
 }

@@ -1,111 +1,74 @@
 // Which rows of the flow, the calls and the catches are refused: the tests behind answers 6, 7 and 8.
 #![tactic(auto)]
 
-ghost use Rattle.std.specs.Prelude.{◌≡◌, ◌||◌, ◌&&◌, ltb, eqb};
+ghost use Rattle.std.specs.Prelude.{◌≡◌};
+ghost use Rattle.graph_tables.specs.Fields.{flow_from, flow_to, call_node, call_method, catch_from, catch_exception, catch_to};
 ghost use Rattle.graph_refuse.specs.Bad.{not_above, flow_row, call_row, catch_row, flow_bad, call_bad, kin, throws_other, catch_bad};
 
-use graph_tables::Tables;
+use graph_tables::{Graph, Kind};
 
-// Row fields are compared from the last to the first: a is above b, or they are equal and the rest is above.
-fn above(a: u16, b: u16, rest: bool) -> bool
-    ensures { result ≡ (ltb b a || (eqb a b && rest)) }
+// The rows, field by field.
+fn flow_row(g: &Graph, k: u16) -> (u16, u16)
+    ensures { result ≡ (flow_from g.now.file.now g.now.tables k, flow_to g.now.file.now g.now.tables k) }
 {
-    (b < a) | ((a == b) & rest)
+    (g.flow_from(k), g.flow_to(k))
 }
 
-fn flow_not_above(f: &[u8], t: Tables, k: u16) -> bool
-    ensures { result ≡ not_above (flow_row f.now t) k }
+fn call_row(g: &Graph, k: u16) -> (u16, u16)
+    ensures { result ≡ (call_node g.now.file.now g.now.tables k, call_method g.now.file.now g.now.tables k) }
 {
-    if k == 0 {
-        return false;
-    }
-    let to = above(
-        graph_tables::flow_to(f, t, k),
-        graph_tables::flow_to(f, t, k - 1),
-        false,
-    );
-    !above(
-        graph_tables::flow_from(f, t, k),
-        graph_tables::flow_from(f, t, k - 1),
-        to,
-    )
+    (g.call_node(k), g.call_method(k))
 }
 
-pub fn flow_bad(f: &[u8], t: Tables, k: u16) -> bool
-    ensures { result ≡ flow_bad f.now t k }
+fn catch_row(g: &Graph, k: u16) -> (u16, u16, u16)
+    ensures { result ≡ (catch_from g.now.file.now g.now.tables k, catch_exception g.now.file.now g.now.tables k, catch_to g.now.file.now g.now.tables k) }
 {
-    let from = graph_tables::flow_from(f, t, k);
-    let to = graph_tables::flow_to(f, t, k);
-    let kind = graph_tables::node_kind(f, t, from);
-    let a = graph_tables::node_method(f, t, from);
-    let b = graph_tables::node_method(f, t, to);
-    let falls = flow_not_above(f, t, k);
-    (t.nodes <= from)
-        | (t.nodes <= to)
-        | (kind == graph_tables::RETURN)
-        | (kind == graph_tables::THROW)
-        | (a != b)
-        | falls
+    (g.catch_from(k), g.catch_exception(k), g.catch_to(k))
 }
 
-fn call_not_above(f: &[u8], t: Tables, k: u16) -> bool
-    ensures { result ≡ not_above (call_row f.now t) k }
+// One line for each table: a closure for the row would be longer.
+fn flow_not_above(g: &Graph, k: u16) -> bool
+    ensures { result ≡ not_above (flow_row g.now.file.now g.now.tables) k }
 {
-    if k == 0 {
-        return false;
-    }
-    let method = above(
-        graph_tables::call_method(f, t, k),
-        graph_tables::call_method(f, t, k - 1),
-        false,
-    );
-    !above(
-        graph_tables::call_node(f, t, k),
-        graph_tables::call_node(f, t, k - 1),
-        method,
-    )
+    k != 0 && flow_row(g, k) <= flow_row(g, k - 1)
 }
 
-pub fn call_bad(f: &[u8], t: Tables, k: u16) -> bool
-    ensures { result ≡ call_bad f.now t k }
+pub fn flow_bad(g: &Graph, k: u16) -> bool
+    ensures { result ≡ flow_bad g.now.file.now g.now.tables k }
 {
-    let node = graph_tables::call_node(f, t, k);
-    let method = graph_tables::call_method(f, t, k);
-    let kind = graph_tables::node_kind(f, t, node);
-    let falls = call_not_above(f, t, k);
-    (t.nodes <= node) | (kind != graph_tables::CALL) | (t.methods <= method) | falls
+    let from = g.flow_from(k);
+    let to = g.flow_to(k);
+    let returns = g.is_kind(from, Kind::Return);
+    let throws = g.is_kind(from, Kind::Throw);
+    let a = g.node_method(from);
+    let b = g.node_method(to);
+    let falls = flow_not_above(g, k);
+    (g.tables.nodes <= from) | (g.tables.nodes <= to) | returns | throws | (a != b) | falls
 }
 
-fn catch_not_above(f: &[u8], t: Tables, k: u16) -> bool
-    ensures { result ≡ not_above (catch_row f.now t) k }
+fn call_not_above(g: &Graph, k: u16) -> bool
+    ensures { result ≡ not_above (call_row g.now.file.now g.now.tables) k }
 {
-    if k == 0 {
-        return false;
-    }
-    let to = above(
-        graph_tables::catch_to(f, t, k),
-        graph_tables::catch_to(f, t, k - 1),
-        false,
-    );
-    let exception = above(
-        graph_tables::catch_exception(f, t, k),
-        graph_tables::catch_exception(f, t, k - 1),
-        to,
-    );
-    !above(
-        graph_tables::catch_from(f, t, k),
-        graph_tables::catch_from(f, t, k - 1),
-        exception,
-    )
+    k != 0 && call_row(g, k) <= call_row(g, k - 1)
+}
+
+pub fn call_bad(g: &Graph, k: u16) -> bool
+    ensures { result ≡ call_bad g.now.file.now g.now.tables k }
+{
+    let node = g.call_node(k);
+    let method = g.call_method(k);
+    let calls = g.is_kind(node, Kind::Call);
+    let falls = call_not_above(g, k);
+    (g.tables.nodes <= node) | !calls | (g.tables.methods <= method) | falls
 }
 
 // Whether c is the kind e or an ancestor of it. Each step leads to a lower number, so there is an end whatever the parents are.
-fn kin(f: &[u8], t: Tables, e: u16, c: u16) -> bool
-    ensures { result ≡ kin f.now t e c }
+fn kin(g: &Graph, e: u16, c: u16) -> bool
+    ensures { result ≡ kin g.now.file.now g.now.tables e c }
 {
     let mut kind = e;
     while kind != c {
-        let parent = graph_tables::parent(f, t, kind);
+        let parent = g.parent(kind);
         if kind <= parent {
             return false;
         }
@@ -114,28 +77,33 @@ fn kin(f: &[u8], t: Tables, e: u16, c: u16) -> bool
     true
 }
 
-fn throws_other(f: &[u8], t: Tables, n: u16, exception: u16) -> bool
-    ensures { result ≡ throws_other f.now t n exception }
+fn throws_other(g: &Graph, n: u16, exception: u16) -> bool
+    ensures { result ≡ throws_other g.now.file.now g.now.tables n exception }
 {
-    let kind = graph_tables::node_kind(f, t, n);
-    if kind == graph_tables::CALL {
+    if g.is_kind(n, Kind::Call) {
         return false;
     }
-    if kind != graph_tables::THROW {
-        return true;
+    if g.is_kind(n, Kind::Throw) {
+        return !kin(g, g.node_number(n), exception);
     }
-    !kin(f, t, graph_tables::node_number(f, t, n), exception)
+    true
 }
 
-pub fn catch_bad(f: &[u8], t: Tables, k: u16) -> bool
-    ensures { result ≡ catch_bad f.now t k }
+fn catch_not_above(g: &Graph, k: u16) -> bool
+    ensures { result ≡ not_above (catch_row g.now.file.now g.now.tables) k }
 {
-    let from = graph_tables::catch_from(f, t, k);
-    let exception = graph_tables::catch_exception(f, t, k);
-    let to = graph_tables::catch_to(f, t, k);
-    let other = throws_other(f, t, from, exception);
-    let a = graph_tables::node_method(f, t, from);
-    let b = graph_tables::node_method(f, t, to);
-    let falls = catch_not_above(f, t, k);
-    (t.nodes <= from) | (t.nodes <= to) | (7 < exception) | other | (a != b) | falls
+    k != 0 && catch_row(g, k) <= catch_row(g, k - 1)
+}
+
+pub fn catch_bad(g: &Graph, k: u16) -> bool
+    ensures { result ≡ catch_bad g.now.file.now g.now.tables k }
+{
+    let from = g.catch_from(k);
+    let exception = g.catch_exception(k);
+    let to = g.catch_to(k);
+    let other = throws_other(g, from, exception);
+    let a = g.node_method(from);
+    let b = g.node_method(to);
+    let falls = catch_not_above(g, k);
+    (g.tables.nodes <= from) | (g.tables.nodes <= to) | (7 < exception) | other | (a != b) | falls
 }

@@ -8,42 +8,40 @@ ghost use Rattle.graph_nodes.specs.Nodes.{does_in, for_type, opening_in};
 ghost use Rattle.graph_nodes.specs.Own.{own_of};
 
 use effect::{Effect, Stock};
-use effect_one::One;
-use graph_tables::Tables;
+use effect_one::{Held, One};
+use graph_tables::{Graph, Kind};
 
 // The effect of node n's own step.
-pub fn step(f: &[u8], t: Tables, n: u16) -> Effect
-    ensures { result ≡ step_of (does_in f.now t n) }
+pub fn step(g: &Graph, n: u16) -> Effect
+    ensures { result ≡ step_of (does_in g.now.file.now g.now.tables n) }
 {
-    if t.nodes <= n {
+    if g.tables.nodes <= n {
         return effect::nothing_done();
     }
-    let kind = graph_tables::node_kind(f, t, n);
-    if kind == graph_tables::GRANT {
-        let number = graph_tables::node_number(f, t, n);
-        let rights = graph_tables::node_rights(f, t, n);
-        let count = graph_tables::node_count(f, t, n);
+    if g.is_kind(n, Kind::Grant) {
+        let number = g.node_number(n);
+        let rights = g.node_rights(n);
+        let count = g.node_count(n);
         return effect::grant(number as usize, rights, count);
     }
-    if kind == graph_tables::DRAW {
-        return effect::draw(graph_tables::node_number(f, t, n) as usize);
+    if g.is_kind(n, Kind::Draw) {
+        return effect::draw(g.node_number(n) as usize);
     }
     effect::nothing_done()
 }
 
 // The same of the node's own type, its number: nothing is done to another (`own_step_means` in proofs/Cases.antt).
-pub fn own_step(f: &[u8], t: Tables, n: u16) -> One
-    ensures { result ≡ own_of (does_in f.now t n) }
+pub fn own_step(g: &Graph, n: u16) -> One
+    ensures { result ≡ own_of (does_in g.now.file.now g.now.tables n) }
 {
-    if t.nodes <= n {
+    if g.tables.nodes <= n {
         return effect_one::nothing_done();
     }
-    let kind = graph_tables::node_kind(f, t, n);
-    if kind == graph_tables::GRANT {
-        let rights = graph_tables::node_rights(f, t, n);
-        return effect_one::grant(rights, graph_tables::node_count(f, t, n));
+    if g.is_kind(n, Kind::Grant) {
+        let rights = g.node_rights(n);
+        return effect_one::grant(rights, g.node_count(n));
     }
-    let draws = kind == graph_tables::DRAW;
+    let draws = g.is_kind(n, Kind::Draw);
     if draws {
         return effect_one::draw();
     }
@@ -51,45 +49,25 @@ pub fn own_step(f: &[u8], t: Tables, n: u16) -> One
 }
 
 // What the opening stock has of type k, of those that the file has.
-fn rights_of(f: &[u8], t: Tables, k: u16) -> u16
-    ensures { result ≡ for_type t (opening_rights f.now t) k }
+fn held_in(g: &Graph, k: usize) -> Held
+    ensures { result ≡ record { rights = for_type g.now.tables (opening_rights g.now.file.now g.now.tables) k; count = for_type g.now.tables (opening_count g.now.file.now g.now.tables) k } }
 {
-    if k < t.types {
-        graph_tables::opening_rights(f, t, k)
+    if k < g.tables.types as usize {
+        Held {
+            rights: g.opening_rights(k as u16),
+            count: g.opening_count(k as u16),
+        }
     } else {
-        0
-    }
-}
-
-fn count_of(f: &[u8], t: Tables, k: u16) -> u16
-    ensures { result ≡ for_type t (opening_count f.now t) k }
-{
-    if k < t.types {
-        graph_tables::opening_count(f, t, k)
-    } else {
-        0
+        Held {
+            rights: 0,
+            count: 0,
+        }
     }
 }
 
 // The opening stock.
-pub fn opening(f: &[u8], t: Tables) -> Stock
-    ensures { result ≡ opening_in f.now t }
+pub fn opening(g: &Graph) -> Stock
+    ensures { result ≡ opening_in g.now.file.now g.now.tables }
 {
-    let rights = [
-        rights_of(f, t, 0),
-        rights_of(f, t, 1),
-        rights_of(f, t, 2),
-        rights_of(f, t, 3),
-        rights_of(f, t, 4),
-        rights_of(f, t, 5),
-    ];
-    let counts = [
-        count_of(f, t, 0),
-        count_of(f, t, 1),
-        count_of(f, t, 2),
-        count_of(f, t, 3),
-        count_of(f, t, 4),
-        count_of(f, t, 5),
-    ];
-    Stock { rights, counts }
+    effect::stock_of(|k| held_in(g, k))
 }

@@ -1,5 +1,5 @@
 -- What is refused of the tables, and of the trailer's counts as one more.
-use Rattle.std.specs.Prelude.{ℕ, Bool, cond, List, ltb}
+use Rattle.std.specs.Prelude.{ℕ, Bool, cond, List, ltb, Result, Ok, Err}
 use Rattle.words.specs.Lowest.{lowest}
 use Rattle.answer.specs.declared.Answer.{Answer}
 use Rattle.answer.specs.declared.Answer.TheVariants.{BadCount, BadEntry, BadFlow, BadCall, BadParent, BadCatch, BadOpening}
@@ -12,6 +12,11 @@ use Rattle.graph_refuse.specs.Bad.{count_bad, entry_bad, node_bad, flow_bad, cal
 -- within a table the lowest row; where no row is refused, what comes next
 abbrev pub refused : (ℕ → Bool) → ℕ → (ℕ → Answer) → Answer → Answer
 refused bad rows answer next = cond (ltb (lowest bad rows) rows) (answer (lowest bad rows)) next
+
+-- the refusal, and where there is none, what comes next
+abbrev pub refusal_or : Result (Unit {0}) Answer → Answer → Answer
+refusal_or (Ok _) next = next
+refusal_or (Err a) next = a
 
 -- which rows of the table are refused
 abbrev pub row_bad : List ℕ → Tables → Table → ℕ → Bool

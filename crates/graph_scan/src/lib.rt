@@ -1,53 +1,47 @@
 // The tables of a graph file, looked at one after the other: which row is refused, and with which answer.
 #![tactic(auto)]
 
-ghost use Rattle.std.specs.Prelude.{◌≡◌};
+ghost use Rattle.std.specs.Prelude.{◌≡◌, ◌<◌, IfErr};
+ghost use Rattle.answer.specs.Number.{number_of};
 ghost use Rattle.words.specs.Lowest.{lowest};
-ghost use Rattle.answer.specs.declared.Answer.TheVariants.{Pass};
+ghost use Rattle.answer.specs.declared.Answer.{Answer};
 ghost use Rattle.graph_tables.specs.Rows.{rows_of};
-ghost use Rattle.graph_scan.specs.Scan.{refused, row_bad, bad_row, judge_tables};
+ghost use Rattle.graph_scan.specs.Scan.{refusal_or, refused, row_bad, bad_row, judge_tables};
 
 use answer::Answer;
-use graph_tables::{Table, Tables};
+use graph_tables::{Graph, Table};
 
-fn row_bad(f: &[u8], t: Tables, table: Table, k: u16) -> bool
-    ensures { result ≡ row_bad f.now t table k }
+fn row_bad(g: &Graph, table: Table, k: u16) -> bool
+    ensures { result ≡ row_bad g.now.file.now g.now.tables table k }
 {
     match table {
-        Table::Trailer => graph_refuse::count_bad(f, k),
-        Table::Methods => graph_refuse::entry_bad(f, t, k),
-        Table::Nodes => graph_refuse::node_bad(f, t, k),
-        Table::Flow => graph_edges::flow_bad(f, t, k),
-        Table::Calls => graph_edges::call_bad(f, t, k),
-        Table::Parents => graph_refuse::parent_bad(f, t, k),
-        Table::Catches => graph_edges::catch_bad(f, t, k),
-        Table::Opening => graph_refuse::opening_bad(f, t, k),
+        Table::Trailer => graph_refuse::count_bad(g.file, k),
+        Table::Methods => graph_refuse::entry_bad(g, k),
+        Table::Nodes => graph_refuse::node_bad(g, k),
+        Table::Flow => graph_edges::flow_bad(g, k),
+        Table::Calls => graph_edges::call_bad(g, k),
+        Table::Parents => graph_refuse::parent_bad(g, k),
+        Table::Catches => graph_edges::catch_bad(g, k),
+        Table::Opening => graph_refuse::opening_bad(g, k),
     }
 }
 
-// The lowest row of the table that is refused, or how many rows there are.
-fn lowest_bad(f: &[u8], t: Tables, table: Table) -> u16
-    ensures { result ≡ lowest (row_bad f.now t table) (rows_of t table) }
+// The lowest row of the table that is refused, or how many rows there are, which is what `lowest` gives for none.
+fn lowest_bad(g: &Graph, table: Table) -> u16
+    ensures { result ≡ lowest (row_bad g.now.file.now g.now.tables table) (rows_of g.now.tables table) }
 {
-    let n = graph_tables::rows(t, table);
-    let mut k = 0;
-    while k < n {
-        if row_bad(f, t, table, k) {
-            return k;
-        }
-        k += 1;
-    }
-    n
+    let n = graph_tables::rows(g.tables, table);
+    (0..n).find(|k| row_bad(g, table, *k)).unwrap_or(n)
 }
 
 // The answer for row k of the table.
-fn bad_row(f: &[u8], t: Tables, table: Table, k: u16) -> Answer
-    ensures { result ≡ bad_row f.now t table k }
+fn bad_row(g: &Graph, table: Table, k: u16) -> Answer
+    ensures { result ≡ bad_row g.now.file.now g.now.tables table k }
 {
     match table {
         Table::Trailer => Answer::BadCount(k),
         Table::Methods => Answer::BadEntry(k),
-        Table::Nodes => graph_places::bad_node_at(f, t, k),
+        Table::Nodes => graph_places::bad_node_at(g, k),
         Table::Flow => Answer::BadFlow(k),
         Table::Calls => Answer::BadCall(k),
         Table::Parents => Answer::BadParent(k),
@@ -56,25 +50,27 @@ fn bad_row(f: &[u8], t: Tables, table: Table, k: u16) -> Answer
     }
 }
 
-// The table's refusal, and where it has none, the answer of what comes next.
-pub fn refused(f: &[u8], t: Tables, table: Table, next: Answer) -> Answer
-    ensures { result ≡ refused (row_bad f.now t table) (rows_of t table) (bad_row f.now t table) next }
+// Err has the table's refusal, which stands before whatever comes next.
+pub fn pass_table(g: &Graph, table: Table) -> Result<(), Answer>
+    ensures first { (next : Answer) → refused (row_bad g.now.file.now g.now.tables table) (rows_of g.now.tables table) (bad_row g.now.file.now g.now.tables table) next ≡ refusal_or result next }
+    ensures refusal { IfErr result (λ a. 0 < number_of a) }
 {
-    let k = lowest_bad(f, t, table);
-    if k < graph_tables::rows(t, table) {
-        return bad_row(f, t, table, k);
+    let k = lowest_bad(g, table);
+    if k < graph_tables::rows(g.tables, table) {
+        return Err(bad_row(g, table, k));
     }
-    next
+    Ok(())
 }
 
-// What a table answers stands before what the next one answers, so the last table of the stage is looked at first.
-pub fn judge_tables(f: &[u8], t: Tables) -> Answer
-    ensures { result ≡ judge_tables f.now t Pass }
+// The tables of the first stage in their order.
+pub fn pass_tables(g: &Graph) -> Result<(), Answer>
+    ensures first { (next : Answer) → judge_tables g.now.file.now g.now.tables next ≡ refusal_or result next }
+    ensures refusal { IfErr result (λ a. 0 < number_of a) }
 {
-    let catches = refused(f, t, Table::Catches, Answer::Pass);
-    let parents = refused(f, t, Table::Parents, catches);
-    let calls = refused(f, t, Table::Calls, parents);
-    let flow = refused(f, t, Table::Flow, calls);
-    let nodes = refused(f, t, Table::Nodes, flow);
-    refused(f, t, Table::Methods, nodes)
+    pass_table(g, Table::Methods)?;
+    pass_table(g, Table::Nodes)?;
+    pass_table(g, Table::Flow)?;
+    pass_table(g, Table::Calls)?;
+    pass_table(g, Table::Parents)?;
+    pass_table(g, Table::Catches)
 }

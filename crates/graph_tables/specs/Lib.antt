@@ -3,3 +3,4 @@ pub mod Rows
 pub mod Fields
 pub mod Family
 pub mod Kinds
+pub mod Named

@@ -7,23 +7,27 @@ ghost use Rattle.graph_tables.specs.Trailer.{trailer_at, trailer, tables_of};
 use graph_tables::Tables;
 
 // Where the trailer starts.
+#[tactic(auto, unfolding(graph_tables::specs::Trailer::trailer_at))]
 fn trailer_at(f: &[u8]) -> usize
     ensures { (result ≡ trailer_at f.now) × (result < 18446744073709551602) }
 {
-    if f.len() < 14 { 0 } else { f.len() - 14 }
+    f.len().saturating_sub(14)
 }
 
 // The trailer's word i. It has seven; past them lies the end of the file.
+#[tactic(auto, using(graph_tables::proofs::Counts::trailer_past), unfolding(graph_tables::specs::Trailer::trailer))]
 pub fn trailer_word(f: &[u8], i: u16) -> u16
     ensures { result ≡ trailer f.now i }
 {
     if i < 7 {
-        return words::word(f, trailer_at(f) + 2 * (i as usize)) as u16;
+        words::word(f, trailer_at(f) + 2 * (i as usize)) as u16
+    } else {
+        0
     }
-    0
 }
 
 // The tables of a file, read once.
+#[tactic(auto, unfolding(graph_tables::specs::Trailer::tables_of))]
 pub fn read(f: &[u8]) -> Tables
     ensures { result ≡ tables_of f.now }
 {

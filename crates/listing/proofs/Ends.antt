@@ -1,7 +1,7 @@
 -- The first 0 of the output stands right behind the text, so that C finds its end.
 use Prim.Native.Nat.{ℕ, ◌+◌, ◌-◌, ◌≤◌, ◌<◌}
-use mathlib.Core.Path.{◌≡◌, sym, ap, subst, ◌∙◌}
-use mathlib.Core.List.{List, ◌++◌}
+use mathlib.Core.Path.{◌≡◌, sym, subst, ◌∙◌}
+use mathlib.Core.List.{List}
 use lib.ListN.{length, get_or, replicate, length-append, length-replicate, get_or-replicate, get_or-append}
 use lib.Seq.{get_or-append-add}
 use native.Mathlib.Omega.{arith}

@@ -1,14 +1,12 @@
 -- Each line of the listing says what runs bring.
 use Prim.Native.Nat.{ℕ, ◌<◌}
-use mathlib.Core.Path.{◌≡◌, refl, sym, ap, subst, ◌∙◌}
-use mathlib.Core.Bool.{Bool, true, false, ◌&&◌}
-use mathlib.Core.List.{List, ◌++◌}
+use mathlib.Core.Path.{◌≡◌, refl, ap}
+use mathlib.Core.Bool.{Bool, true, false}
+use mathlib.Core.List.{List}
 use lib.ListN.{length}
 use native.Mathlib.Omega.{arith}
-use Rattle.words_digits.specs.Text.{joined}
 use Rattle.answer.specs.declared.Answer.{Answer}
 use Rattle.answer.specs.declared.Answer.TheVariants.{Pass}
-use Rattle.effect.specs.declared.Stock.{Stock}
 use Rattle.effect.specs.Six.{held_at}
 use Rattle.effect.specs.Coordinate.{at}
 use Rattle.effect.proofs.Bools.{and_l, and_r, and_i, clash}
@@ -24,10 +22,10 @@ use Rattle.sheet_layout.specs.declared.Shape.{Shape}
 use Rattle.sheet_layout.specs.Layout.{method_at, node_at, sheet_bytes}
 use Rattle.sheet.specs.Read.{stock_at, effect_at}
 use Rattle.sheet.specs.Read.{marked}
-use Rattle.rule_test.specs.Sheet.{IsReached, stock_in}
+use Rattle.rule_test.specs.Sheet.{IsReached}
 use Rattle.sheet.proofs.Marked.{mark_true, true_mark}
 use Rattle.reach.specs.Node.{is_reached, node_stock}
-use Rattle.listing_first.specs.Listing.{first_line, stock_line, node_lines, is_verdict, listing_of}
+use Rattle.listing_first.specs.Listing.{node_lines, is_verdict}
 use Rattle.listing_first.proofs.Lengths.{is_listed, is_unlisted, is_full}
 use Rattle.listing_first.proofs.Longest.{left_count}
 use Rattle.work.specs.Meaning.{Worked, WorksOut, refused, wrong_length, overdrawn, passes}

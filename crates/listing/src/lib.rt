@@ -8,10 +8,13 @@ ghost use Rattle.listing.specs.Lists.{text_of, padded, Lists};
 
 use answer::Answer;
 use graph::Judgement;
+use graph_tables::Graph;
+use words_digits::Text;
 
 // No listing has more than 46,102 bytes, and a 0 stands behind it.
 pub const ROOM: usize = 46103;
 
+// The answer, and how much of the lent output the text takes, as `Read::read` says it.
 #[derive(Clone, Copy)]
 pub struct Reply {
     pub answer: Answer,
@@ -23,10 +26,14 @@ fn tell(f: &[u8], j: Judgement, s: &[u8], a: Answer, out: &mut [u8]) -> usize
     requires { (j ≡ judged_of f.now) × Within j.shape × (length (text_of f.now a s.now) ≤ length out.old) }
     ensures { (out.new ≡ padded (text_of f.now a s.now) (length out.old)) × (result ≡ length (text_of f.now a s.now)) }
 {
-    let t = j.tables;
-    let x = j.shape;
+    let g = Graph {
+        file: f,
+        tables: j.tables,
+    };
     sheet::blank(out);
-    listing_text::put_listing(out, 0, a, f, t, x, s)
+    let mut text = Text { out, end: 0 };
+    listing_text::put_listing(&mut text, a, &g, j.shape, s);
+    text.end
 }
 
 // The listing of a file that has been judged, so that whoever lends the sheet judges it once.

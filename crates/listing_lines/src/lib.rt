@@ -1,55 +1,49 @@
-// A node's lines of the listing, one for each type, written into a lent buffer.
+// A node's lines of the listing, one for each type.
 #![tactic(auto)]
 
-ghost use Rattle.std.specs.Prelude.{◌+◌, ◌<◌, ◌≤◌, length};
-ghost use Rattle.words_digits.specs.Puts.{Puts};
+ghost use Rattle.std.specs.Prelude.{◌+◌, ◌≤◌, length};
+ghost use Rattle.words_digits.specs.Writes.{Writes};
 ghost use Rattle.listing_first.specs.Listing.{count_text, stock_line, stock_lines};
 
 use effect::Stock;
 use effect_one::Held;
+use words_digits::Text;
 
 // An endless count is a star.
-fn put_count(out: &mut [u8], at: usize, count: u16) -> usize
-    requires { at + length (count_text count) ≤ length out.old }
-    ensures { Puts out.old at (count_text count) out.new result }
+#[tactic(auto, unfolding(listing_first::specs::Listing::count_text))]
+fn put_count(text: &mut Text, count: u16)
+    requires { text.old.end + length (count_text count) ≤ length text.old.out.now }
+    ensures { Writes text.old (count_text count) text.new }
 {
     if count == 255 {
-        return words_digits::put_byte(out, at, b'*');
+        text.put_byte(b'*');
+    } else {
+        text.put_decimal(count);
     }
-    words_digits::put_decimal(out, at, count as usize)
 }
 
 // The line of node n and type k.
-fn put_line(out: &mut [u8], at: usize, n: usize, k: usize, h: Held) -> usize
-    requires { (n < 65536) × ((k < 65536) × (at + length (stock_line n k h) ≤ length out.old)) }
-    ensures { Puts out.old at (stock_line n k h) out.new result }
+#[tactic(auto, using(listing_first::proofs::Lengths::line_length))]
+fn put_line(text: &mut Text, n: u16, k: u16, h: Held)
+    requires { text.old.end + length (stock_line n k h) ≤ length text.old.out.now }
+    ensures { Writes text.old (stock_line n k h) text.new }
 {
-    let rights = h.rights;
-    let count = h.count;
-    let a = words_digits::put_decimal(out, at, n);
-    let b = words_digits::put_byte(out, a, b' ');
-    let c = words_digits::put_decimal(out, b, k);
-    let d = words_digits::put_byte(out, c, b' ');
-    let e = words_digits::put_hex(out, d, rights);
-    let f = words_digits::put_byte(out, e, b' ');
-    let g = put_count(out, f, count);
-    words_digits::put_byte(out, g, b'\n')
+    text.put_decimal(n);
+    text.put_byte(b' ');
+    text.put_decimal(k);
+    text.put_byte(b' ');
+    text.put_hex(h.rights);
+    text.put_byte(b' ');
+    put_count(text, h.count);
+    text.put_byte(b'\n');
 }
 
 // The lines of node n, which holds `held`.
-pub fn put_stock(out: &mut [u8], at: usize, n: usize, types: usize, held: Stock) -> usize
-    requires { (n < 65536) × ((types ≤ 6) × (at + length (stock_lines n held types) ≤ length out.old)) }
-    ensures { Puts out.old at (stock_lines n held types) out.new result }
+pub fn put_stock(text: &mut Text, n: u16, types: u16, held: Stock)
+    requires { (types ≤ 6) × (text.old.end + length (stock_lines n held types) ≤ length text.old.out.now) }
+    ensures { Writes text.old (stock_lines n held types) text.new }
 {
-    let mut end = at;
-    let mut k = 0;
-    while k < types {
-        let h = Held {
-            rights: held.rights[k],
-            count: held.counts[k],
-        };
-        end = put_line(out, end, n, k, h);
-        k += 1;
+    for k in 0..types {
+        put_line(text, n, k, effect::held_at(held, k as usize));
     }
-    end
 }

@@ -3,56 +3,43 @@
 
 ghost use Rattle.std.specs.Prelude.{◌+◌, ◌≤◌, length};
 ghost use Rattle.words_digits.specs.Text.{joined};
-ghost use Rattle.words_digits.specs.Puts.{Puts};
+ghost use Rattle.words_digits.specs.Writes.{Writes};
 ghost use Rattle.sheet_layout.specs.Layout.{Within};
 ghost use Rattle.listing_first.specs.Listing.{node_lines, listing_of};
 
 use answer::Answer;
-use graph_tables::Tables;
+use graph_tables::Graph;
 use sheet_layout::Shape;
+use words_digits::Text;
 
 // The lines of node n, if it is reached.
-fn put_node(out: &mut [u8], at: usize, f: &[u8], t: Tables, x: Shape, s: &[u8], n: u16) -> usize
-    requires { Within x × (at + length (node_lines f.now t x s.now n) ≤ length out.old) }
-    ensures { Puts out.old at (node_lines f.now t x s.now n) out.new result }
+fn put_node(text: &mut Text, g: &Graph, x: Shape, s: &[u8], n: u16)
+    requires { Within x × (text.old.end + length (node_lines g.now.file.now g.now.tables x s.now n) ≤ length text.old.out.now) }
+    ensures { Writes text.old (node_lines g.now.file.now g.now.tables x s.now n) text.new }
 {
-    if reach::reached(f, t, x, s, n) {
-        let held = reach::stock(f, t, x, s, n);
-        return listing_lines::put_stock(out, at, n as usize, x.types as usize, held);
+    if reach::reached(g, x, s, n) {
+        let held = reach::stock(g, x, s, n);
+        listing_lines::put_stock(text, n, x.types, held);
     }
-    at
 }
 
-fn put_nodes(out: &mut [u8], at: usize, f: &[u8], t: Tables, x: Shape, s: &[u8]) -> usize
-    requires { Within x × (at + length (joined (node_lines f.now t x s.now) x.nodes) ≤ length out.old) }
-    ensures { Puts out.old at (joined (node_lines f.now t x s.now) x.nodes) out.new result }
+fn put_nodes(text: &mut Text, g: &Graph, x: Shape, s: &[u8])
+    requires { Within x × (text.old.end + length (joined (node_lines g.now.file.now g.now.tables x s.now) x.nodes) ≤ length text.old.out.now) }
+    ensures { Writes text.old (joined (node_lines g.now.file.now g.now.tables x s.now) x.nodes) text.new }
 {
-    let mut end = at;
-    let mut n = 0;
-    while n < x.nodes {
-        end = put_node(out, end, f, t, x, s, n);
-        n += 1;
+    for n in 0..x.nodes {
+        put_node(text, g, x, s, n);
     }
-    end
 }
 
 // The listing of the answer a and the sheet s of the file f.
-pub fn put_listing(
-    out: &mut [u8],
-    at: usize,
-    a: Answer,
-    f: &[u8],
-    t: Tables,
-    x: Shape,
-    s: &[u8],
-) -> usize
-    requires { Within x × (at + length (listing_of a f.now t x s.now) ≤ length out.old) }
-    ensures { Puts out.old at (listing_of a f.now t x s.now) out.new result }
+pub fn put_listing(text: &mut Text, a: Answer, g: &Graph, x: Shape, s: &[u8])
+    requires { Within x × (text.old.end + length (listing_of a g.now.file.now g.now.tables x s.now) ≤ length text.old.out.now) }
+    ensures { Writes text.old (listing_of a g.now.file.now g.now.tables x s.now) text.new }
 {
-    let end = listing_first::put_first(out, at, a);
-    let number = answer::number(a);
-    if (number == 0) | (number == 13) {
-        return put_nodes(out, end, f, t, x, s);
+    listing_first::put_first(text, a);
+    match a {
+        Answer::Pass | Answer::Overdrawn(..) => put_nodes(text, g, x, s),
+        _ => {}
     }
-    end
 }

@@ -19,7 +19,7 @@ use Rattle.answer.proofs.Settled.{says_only, says}
 use Rattle.graph_tables.specs.declared.Tables.{Tables}
 use Rattle.graph_tables.specs.Trailer.{tables_of}
 use Rattle.graph_tables.specs.Kinds.{grant_kind, draw_kind}
-use Rattle.graph_tables.specs.Fields.{node_method, node_kind, node_number, node_count, node_rights, flow_from, flow_to, catch_from, catch_exception, catch_to, entry_of, call_node, call_method}
+use Rattle.graph_tables.specs.Fields.{node_method, node_kind, node_number, node_count, node_rights, flow_from, flow_to, catch_from, catch_exception, catch_to}
 use Rattle.graph_refuse.proofs.Fit.{entry_fit, flow_fit, call_fit, catch_fit}
 use Rattle.graph_places.specs.Places.{unfit_at}
 use Rattle.graph.specs.Judge.{judge_of}

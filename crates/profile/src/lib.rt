@@ -7,23 +7,29 @@ ghost use Rattle.profile.specs.Profile.{Profiled, BreaksOneShot, BreaksSession};
 ghost use Rattle.profile.specs.Breaks.{Breaks};
 
 use answer::Answer;
+use graph::PassedGraph;
 use profile_looks::Profile;
+
+// The nodes of a file that passes.
+fn of_passed(p: &PassedGraph, profile: Profile) -> Answer
+    ensures { Profiled p.now.graph.file.now (Breaks p.now.graph.file.now profile) result }
+{
+    let g = &p.graph;
+    let n = profile_looks::breaking(g, profile);
+    if n < g.tables.nodes {
+        return graph_places::unfit_at(g, n);
+    }
+    Answer::Pass
+}
 
 // The file is judged first, and then its nodes.
 fn profiled(f: &[u8], profile: Profile) -> Answer
     ensures { Profiled f.now (Breaks f.now profile) result }
 {
-    let j = graph::judged(f);
-    let a = j.answer;
-    if answer::number(a) == 0 {
-        let t = j.tables;
-        let n = profile_looks::breaking(f, t, profile);
-        if n < t.nodes as usize {
-            return graph_places::unfit_at(f, t, n as u16);
-        }
-        return Answer::Pass;
+    match graph::pass(f) {
+        Ok(p) => of_passed(&p, profile),
+        Err(refusal) => refusal,
     }
-    a
 }
 
 // For add-ons that ask right before each use.

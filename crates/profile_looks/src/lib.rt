@@ -4,7 +4,7 @@
 ghost use Rattle.std.specs.Prelude.{◌≡◌};
 ghost use Rattle.profile_looks.specs.Looks.{is_draw, asks, rows_of, node_of, convicts, convicted, lowest_of, breaking};
 
-use graph_tables::Tables;
+use graph_tables::{Graph, Kind, Tables};
 
 // A look at the rows of one table. A row may convict a node.
 #[derive(Clone, Copy)]
@@ -37,107 +37,104 @@ fn rows(t: Tables, look: Look) -> u16
 }
 
 // The node that row k speaks of.
-fn node(f: &[u8], t: Tables, look: Look, k: u16) -> u16
-    ensures { result ≡ node_of f.now t look k }
+fn node(g: &Graph, look: Look, k: u16) -> u16
+    ensures { result ≡ node_of g.now.file.now g.now.tables look k }
 {
     match look {
-        Look::Flow => graph_tables::flow_to(f, t, k),
-        Look::Entry => graph_tables::entry(f, k),
-        Look::Catch => graph_tables::catch_to(f, t, k),
+        Look::Flow => g.flow_to(k),
+        Look::Entry => g.entry(k),
+        Look::Catch => g.catch_to(k),
         Look::Grant => k,
-        Look::Call => graph_tables::call_node(f, t, k),
+        Look::Call => g.call_node(k),
     }
 }
 
-fn is_draw(f: &[u8], t: Tables, n: u16) -> bool
-    ensures { result ≡ is_draw f.now t n }
+fn is_draw(g: &Graph, n: u16) -> bool
+    ensures { result ≡ is_draw g.now.file.now g.now.tables n }
 {
-    graph_tables::node_kind(f, t, n) == graph_tables::DRAW
+    g.is_kind(n, Kind::Draw)
 }
 
-// Node g is a grant of the type of the draw d, whose rights contain the draw's, with a count of exactly 1.
-fn asks(f: &[u8], t: Tables, g: u16, d: u16) -> bool
-    ensures { result ≡ asks f.now t g d }
+// Node a is a grant of the type of the draw d, whose rights contain the draw's, with a count of exactly 1.
+fn asks(g: &Graph, a: u16, d: u16) -> bool
+    ensures { result ≡ asks g.now.file.now g.now.tables a d }
 {
-    let kind = graph_tables::node_kind(f, t, g);
-    let granted = graph_tables::node_number(f, t, g);
-    let drawn = graph_tables::node_number(f, t, d);
-    let given = graph_tables::node_rights(f, t, g);
-    let needed = graph_tables::node_rights(f, t, d);
-    let count = graph_tables::node_count(f, t, g);
-    (kind == graph_tables::GRANT) & (granted == drawn) & (needed & given == needed) & (count == 1)
+    let grants = g.is_kind(a, Kind::Grant);
+    let granted = g.node_number(a);
+    let drawn = g.node_number(d);
+    let given = g.node_rights(a);
+    let needed = g.node_rights(d);
+    let count = g.node_count(a);
+    grants & (granted == drawn) & (needed & given == needed) & (count == 1)
 }
 
 // Flow row k leads to a draw, and leaves anything but a grant that asks for it.
-fn flow_convicts(f: &[u8], t: Tables, k: u16) -> bool
-    ensures { result ≡ convicts f.now t Look.Flow k }
+fn flow_convicts(g: &Graph, k: u16) -> bool
+    ensures { result ≡ convicts g.now.file.now g.now.tables Look.Flow k }
 {
-    let from = graph_tables::flow_from(f, t, k);
-    let to = graph_tables::flow_to(f, t, k);
-    is_draw(f, t, to) & !asks(f, t, from, to)
+    let from = g.flow_from(k);
+    let to = g.flow_to(k);
+    is_draw(g, to) & !asks(g, from, to)
 }
 
 // Node k is a grant, and does not stand in method 0 with count 255.
-fn grant_convicts(f: &[u8], t: Tables, k: u16) -> bool
-    ensures { result ≡ convicts f.now t Look.Grant k }
+fn grant_convicts(g: &Graph, k: u16) -> bool
+    ensures { result ≡ convicts g.now.file.now g.now.tables Look.Grant k }
 {
-    let kind = graph_tables::node_kind(f, t, k);
-    let method = graph_tables::node_method(f, t, k);
-    let count = graph_tables::node_count(f, t, k);
-    (kind == graph_tables::GRANT) & !((method == 0) & (count == 255))
+    let grants = g.is_kind(k, Kind::Grant);
+    let method = g.node_method(k);
+    let count = g.node_count(k);
+    grants & !((method == 0) & (count == 255))
 }
 
-fn convicts(f: &[u8], t: Tables, look: Look, k: u16) -> bool
-    ensures { result ≡ convicts f.now t look k }
+fn convicts(g: &Graph, look: Look, k: u16) -> bool
+    ensures { result ≡ convicts g.now.file.now g.now.tables look k }
 {
     match look {
-        Look::Flow => flow_convicts(f, t, k),
-        Look::Entry => is_draw(f, t, graph_tables::entry(f, k)),
-        Look::Catch => is_draw(f, t, graph_tables::catch_to(f, t, k)),
-        Look::Grant => grant_convicts(f, t, k),
-        Look::Call => graph_tables::call_method(f, t, k) == 0,
+        Look::Flow => flow_convicts(g, k),
+        Look::Entry => is_draw(g, g.entry(k)),
+        Look::Catch => is_draw(g, g.catch_to(k)),
+        Look::Grant => grant_convicts(g, k),
+        Look::Call => g.call_method(k) == 0,
     }
 }
 
-// The node that row k convicts, or how many nodes there are.
-fn convicted(f: &[u8], t: Tables, look: Look, k: u16) -> usize
-    ensures { result ≡ convicted f.now t look k }
+// The node that row k convicts, or how many nodes there are, as `convicted` of the specs has it.
+fn convicted(g: &Graph, look: Look, k: u16) -> u16
+    ensures { result ≡ convicted g.now.file.now g.now.tables look k }
 {
-    if convicts(f, t, look, k) {
-        return node(f, t, look, k) as usize;
+    if convicts(g, look, k) {
+        return node(g, look, k);
     }
-    t.nodes as usize
+    g.tables.nodes
 }
 
-// The lowest node that a row of the look's table convicts, or how many nodes there are.
-fn lowest(f: &[u8], t: Tables, look: Look) -> usize
-    ensures { result ≡ lowest_of f.now t look }
+// The lowest node that a row of the look's table convicts, or how many nodes there are: a None would be less than every node.
+fn lowest(g: &Graph, look: Look) -> u16
+    ensures { result ≡ lowest_of g.now.file.now g.now.tables look }
 {
-    let n = rows(t, look);
-    let mut least = t.nodes as usize;
-    let mut k = 0;
-    while k < n {
-        least = words::smaller(least, convicted(f, t, look, k));
-        k += 1;
+    let mut least = g.tables.nodes;
+    for k in 0..rows(g.tables, look) {
+        least = least.min(convicted(g, look, k));
     }
     least
 }
 
-// The lowest node that breaks the profile, or how many nodes there are.
-pub fn breaking(f: &[u8], t: Tables, profile: Profile) -> usize
-    ensures { result ≡ breaking f.now t profile }
+// The lowest node that breaks the profile, or how many nodes there are, as `breaking` of the specs has it.
+pub fn breaking(g: &Graph, profile: Profile) -> u16
+    ensures { result ≡ breaking g.now.file.now g.now.tables profile }
 {
     match profile {
         Profile::OneShot => {
-            let flow = lowest(f, t, Look::Flow);
-            let entry = lowest(f, t, Look::Entry);
-            let catches = lowest(f, t, Look::Catch);
-            words::smaller(flow, words::smaller(entry, catches))
+            let flow = lowest(g, Look::Flow);
+            let entry = lowest(g, Look::Entry);
+            let catches = lowest(g, Look::Catch);
+            flow.min(entry.min(catches))
         }
         Profile::Session => {
-            let grant = lowest(f, t, Look::Grant);
-            let call = lowest(f, t, Look::Call);
-            words::smaller(grant, call)
+            let grant = lowest(g, Look::Grant);
+            let call = lowest(g, Look::Call);
+            grant.min(call)
         }
     }
 }

@@ -13,7 +13,6 @@ use Rattle.graph_tables.specs.declared.Table.TheVariants.{Methods, Nodes, Flow, 
 use Rattle.graph_tables.specs.Rows.{rows_of}
 use Rattle.graph_tables.specs.Kinds.{return_kind, throw_kind}
 use Rattle.graph_tables.specs.Fields.{entry_of, node_method, node_kind, node_number, flow_from, flow_to}
-use Rattle.graph_rows.specs.declared.Stretch.{Stretch}
 use Rattle.graph_rows.specs.Rows.{flow_of, catches_of, uncaught_of, target_of}
 use Rattle.graph_rows.proofs.Stretches.{In}
 use Rattle.graph_nodes.specs.Nodes.{opening_in}

@@ -1,3 +1,4 @@
+pub mod Tables
 pub mod Turned
 pub mod Given
 pub mod Quiet

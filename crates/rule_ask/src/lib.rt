@@ -10,12 +10,12 @@ ghost use Rattle.sheet.specs.Under.{effect_under};
 ghost use Rattle.rule_ask.specs.Gives.{table_at, turned, goes_in, node_effect, stepped_in, called_in, thrown_in};
 
 use effect::Effect;
-use graph_tables::{Table, Tables};
+use graph_tables::{Graph, Table};
 use rule_rounds::Rounds;
 use sheet_layout::Shape;
 
 // What a call row gives: the call, the method called, whether the call is marked, whether exit 0 of the method is, and the rounds, which
-// nothing asks for where the call is not marked.
+// nothing asks for where the call is not marked. Two flags and no Option, since `called_in` is this record and the walks read the marks of it.
 #[derive(Clone, Copy)]
 pub struct Gives {
     pub node: u16,
@@ -26,19 +26,13 @@ pub struct Gives {
 }
 
 // The tables whose rows ask something, in the order of the rules.
+pub const TABLES: [Table; 4] = [Table::Methods, Table::Flow, Table::Nodes, Table::Calls];
+
+// The table at the place i of these, or the last.
 pub fn table_at(i: u16) -> Table
     ensures { result ≡ table_at i }
 {
-    if i == 0 {
-        return Table::Methods;
-    }
-    if i == 1 {
-        return Table::Flow;
-    }
-    if i == 2 {
-        return Table::Nodes;
-    }
-    Table::Calls
+    TABLES[i.min(3) as usize]
 }
 
 // Which of n rows comes at step k.
@@ -57,76 +51,75 @@ pub fn node_effect(s: &[u8], x: Shape, n: u16) -> Effect
 }
 
 // Rule 3: node n is a marked plain, grant or draw.
-pub fn goes(f: &[u8], t: Tables, x: Shape, s: &[u8], n: u16) -> bool
-    ensures { result ≡ goes_in f.now t x s.now n }
+pub fn goes(g: &Graph, x: Shape, s: &[u8], n: u16) -> bool
+    ensures { result ≡ goes_in g.now.file.now g.now.tables x s.now n }
 {
-    (graph_tables::node_kind(f, t, n) <= graph_tables::DRAW)
-        & sheet::is_marked(s, sheet_layout::node_at(x, n))
+    g.goes_on(n) & sheet::is_marked(s, sheet_layout::node_at(x, n))
 }
 
 // Rule 3: its effect, then the step. Of a block that lies in the sheet it is made type by type.
-pub fn stepped(f: &[u8], t: Tables, x: Shape, s: &[u8], n: u16) -> Effect
-    ensures { result ≡ stepped_in f.now t x s.now n }
+pub fn stepped(g: &Graph, x: Shape, s: &[u8], n: u16) -> Effect
+    ensures { result ≡ stepped_in g.now.file.now g.now.tables x s.now n }
 {
     let w = sheet_layout::node_at(x, n);
-    let own = graph_tables::node_number(f, t, n);
+    let own = g.node_number(n);
     let block = sheet::lies_in(s, x.types, w, 4);
     if block & (own < x.types) {
-        let step = graph_nodes::own_step(f, t, n);
+        let step = graph_nodes::own_step(g, n);
         return sheet_compare::stepped(s, x.types, w, own as usize, step);
     }
-    effect::then(node_effect(s, x, n), graph_nodes::step(f, t, n))
+    effect::then(node_effect(s, x, n), graph_nodes::step(g, n))
 }
 
 // Rule 3: the block at v and that of node n lie in the sheet, and the file has the type of its step: they can be compared where they stand.
-fn in_place(f: &[u8], t: Tables, x: Shape, s: &[u8], n: u16, v: usize) -> bool
-    ensures { result ≡ true → (x.types ≤ 6) × (node_number f.now t n < x.types) × (2 * (v + effect_size x.types) ≤ length s.now) × (2 * (node_at x n + effect_size x.types) ≤ length s.now) }
+fn in_place(g: &Graph, x: Shape, s: &[u8], n: u16, v: usize) -> bool
+    ensures { result ≡ true → (x.types ≤ 6) × (node_number g.now.file.now g.now.tables n < x.types) × (2 * (v + effect_size x.types) ≤ length s.now) × (2 * (node_at x n + effect_size x.types) ≤ length s.now) }
 {
     let blocks = sheet::lies_in(s, x.types, v, 4)
         & sheet::lies_in(s, x.types, sheet_layout::node_at(x, n), 4);
-    blocks & (graph_tables::node_number(f, t, n) < x.types)
+    blocks & (g.node_number(n) < x.types)
 }
 
 // Rule 3: the lowest type at which the effect of the block at v is not at most that, or 6. Here and below the loop over the types is called
-// with numbers alone: a call with the file's tables would copy them for each row.
-pub fn stepped_fails(f: &[u8], t: Tables, x: Shape, s: &[u8], n: u16, v: usize) -> usize
-    ensures { result ≡ fails_of (effect_at s.now x.types v) (stepped_in f.now t x s.now n) }
+// with numbers alone: it reads the sheet and nothing of the file.
+pub fn stepped_fails(g: &Graph, x: Shape, s: &[u8], n: u16, v: usize) -> usize
+    ensures { result ≡ fails_of (effect_at s.now x.types v) (stepped_in g.now.file.now g.now.tables x s.now n) }
 {
-    if in_place(f, t, x, s, n, v) {
+    if in_place(g, x, s, n, v) {
         let w = sheet_layout::node_at(x, n);
-        let own = graph_tables::node_number(f, t, n);
-        let step = graph_nodes::own_step(f, t, n);
+        let own = g.node_number(n);
+        let step = graph_nodes::own_step(g, n);
         return sheet_compare::stepped_fails(s, x.types, v, w, own as usize, step);
     }
-    sheet_compare::effect_fails(s, x.types, v, stepped(f, t, x, s, n))
+    sheet_compare::effect_fails(s, x.types, v, stepped(g, x, s, n))
 }
 
 // Rule 3: the block at v has mark 1 and is at most that.
-pub fn stepped_met(f: &[u8], t: Tables, x: Shape, s: &[u8], n: u16, v: usize) -> bool
-    ensures { result ≡ effect_under s.now x v (stepped_in f.now t x s.now n) }
+pub fn stepped_met(g: &Graph, x: Shape, s: &[u8], n: u16, v: usize) -> bool
+    ensures { result ≡ effect_under s.now x v (stepped_in g.now.file.now g.now.tables x s.now n) }
 {
-    if in_place(f, t, x, s, n, v) {
+    if in_place(g, x, s, n, v) {
         let w = sheet_layout::node_at(x, n);
-        let own = graph_tables::node_number(f, t, n);
-        let step = graph_nodes::own_step(f, t, n);
+        let own = g.node_number(n);
+        let step = graph_nodes::own_step(g, n);
         return sheet_compare::stepped_met(s, x, v, w, own as usize, step);
     }
-    sheet_compare::effect_met(s, x, v, stepped(f, t, x, s, n))
+    sheet_compare::effect_met(s, x, v, stepped(g, x, s, n))
 }
 
 // Rules 7 to 10, of call row k.
-pub fn of_call(f: &[u8], t: Tables, x: Shape, s: &[u8], k: u16) -> Gives
-    ensures { result ≡ called_in f.now t x s.now k }
+pub fn of_call(g: &Graph, x: Shape, s: &[u8], k: u16) -> Gives
+    ensures { result ≡ called_in g.now.file.now g.now.tables x s.now k }
 {
-    let node = graph_tables::call_node(f, t, k);
-    let method = graph_tables::call_method(f, t, k);
+    let node = g.call_node(k);
+    let method = g.call_method(k);
     let w = sheet_layout::node_at(x, node);
     let v = sheet_layout::exit_at(x, method, 0);
     let marked = sheet::is_marked(s, w);
     let returns = sheet::is_marked(s, v);
     let call = sheet::effect(s, x.types, w);
     let exit = sheet::effect(s, x.types, v);
-    let repeats = graph_tables::node_count(f, t, node) as usize;
+    let repeats = g.node_count(node) as usize;
     Gives {
         node,
         method,

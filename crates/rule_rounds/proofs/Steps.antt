@@ -3,7 +3,6 @@ use Prim.Native.Nat.{ℕ, zero, suc, ◌+◌, ◌-◌, ◌*◌, ◌/◌, ◌^◌
 use mathlib.Core.Path.{◌≡◌, refl, sym, ap, ◌∙◌}
 use mathlib.Core.Bool.{Bool, true, ◌&&◌}
 use native.Mathlib.Omega.{arith}
-use native.Mathlib.Nat.{pow-suc}
 use native.Mathlib.Decide.{dec_lt}
 use borrow.Author.Tests.{leb-true}
 use Rattle.effect.proofs.Bools.{and_l, and_r}
@@ -23,18 +22,16 @@ module _ (e : ℕ) (some : 0 < e) (word : e < 2 ^ 32) where
   pub top_word : count_leading_zeros 32 e ≤ 31
   top_word = omega (arith, top.1)
 
-  pub top_one : e / 2 ^ (31 - count_leading_zeros 32 e) ≡ 1
-  top_one =
-      let j = top.0 in
-      let at : 31 - count_leading_zeros 32 e ≡ j = omega (arith, top.1) in
-      let parts : 1 * 2 ^ j + (e - 2 ^ j) ≡ e = omega (arith, top.2) in
-      ap (λ n. e / 2 ^ n) at ∙ ap (λ n. n / 2 ^ j) (sym parts) ∙ high 1 j (omega (arith, top.2, top.3, pow-suc 2 j))
-
   pub steps_length : (y : Effect) → suc (length (power_chain y e)) ≡ bit_length e - 1 + ones e
   steps_length y = omega (arith, top.1, chain_length y top.0 e top.2 top.3)
 
   pub steps_word : bit_length e - 1 + ones e ≤ 63
   steps_word = omega (arith, top.1, ones-le 32 e word)
+
+pub top_one : (e j : ℕ) → 2 ^ j ≤ e → e < 2 * 2 ^ j → e / 2 ^ j ≡ 1
+top_one e j a b =
+    let parts : 1 * 2 ^ j + (e - 2 ^ j) ≡ e = omega (arith, a) in
+    ap (λ n. n / 2 ^ j) (sym parts) ∙ high 1 j (omega (arith, a, b))
 
 pub no_steps : (r : ℕ) → r < 2 → 0 ≡ steps_of r
 unfolding steps_of

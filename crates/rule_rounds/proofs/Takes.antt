@@ -50,11 +50,9 @@ pub record OnTheWay (y : Effect) (e n : ℕ) (p : Climb) : Type 0 where
   pub reached : p ≡ climb_of y (power_chain y (e / 2 ^ n))
 
 module _ (y : Effect) (e : ℕ) where
-  pub at_top : (top : ℕ) → e / 2 ^ top ≡ 1 → OnTheWay y e (top - 0) (climbed y 0)
+  pub at_top : (top : ℕ) → e / 2 ^ top ≡ 1 → OnTheWay y e top (climbed y 0)
   unfolding climb_of last_of
-  at_top top h =
-      let none : top - 0 ≡ top = omega arith in
-      rw none (record { some = omega arith; reached = sym (ap (climb_of y) (chain_none y (e / 2 ^ top) (omega arith))) })
+  at_top top h = record { some = omega arith; reached = sym (ap (climb_of y) (chain_none y (e / 2 ^ top) (omega arith))) }
 
   digit_on_lem : (n : ℕ) (p q : Climb) → ((l : List Effect) → p ≡ climb_of y l → q ≡ climb_of y (digit_on y (eqb (e / 2 ^ n % 2) 1) l)) → OnTheWay y e (suc n) p → OnTheWay y e n q
   digit_on_lem n p q d w =
@@ -64,10 +62,10 @@ module _ (y : Effect) (e : ℕ) where
         reached = d (power_chain y (e / 2 ^ n / 2)) (w.reached ∙ ap (λ k. climb_of y (power_chain y k)) half) ∙ sym (ap (climb_of y) (chain_half y (e / 2 ^ n) (omega (arith, w.some))));
       }
 
-  -- with i digits below the highest read, of `top`, the next is read
-  pub digit_read : (top i : ℕ) (p q : Climb) → i < top → ((l : List Effect) → p ≡ climb_of y l → q ≡ climb_of y (digit_on y (eqb (e / 2 ^ (top - (i + 1)) % 2) 1) l))
-      → OnTheWay y e (top - i) p → OnTheWay y e (top - (i + 1)) q
-  digit_read top i p q h d w = let n : top - i ≡ suc (top - (i + 1)) = omega arith in digit_on_lem (top - (i + 1)) p q d (rw n at w)
+  -- the next is read
+  pub digit_read : (n : ℕ) (p q : Climb) → 0 < n → ((l : List Effect) → p ≡ climb_of y l → q ≡ climb_of y (digit_on y (eqb (e / 2 ^ (n - 1) % 2) 1) l))
+      → OnTheWay y e n p → OnTheWay y e (n - 1) q
+  digit_read n p q h d w = let m : n ≡ suc (n - 1) = omega arith in digit_on_lem (n - 1) p q d (rw m at w)
 
   pub all_read : (n : ℕ) (p : Climb) → n ≡ 0 → OnTheWay y e n p → p ≡ climb_of y (power_chain y e)
   all_read n p h w =

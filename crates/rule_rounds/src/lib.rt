@@ -54,12 +54,9 @@ fn power(y: Effect, e: u32) -> Climb
     requires { 0 < e }
     ensures { result ≡ climb_of y (power_chain y e) }
 {
-    let top = 31 - u32::leading_zeros(e);
     let mut p = Climb { power: y, steps: 0 };
-    let mut i = 0;
-    while i < top {
-        i += 1;
-        p = digit(p, y, (e >> (top - i)) % 2 == 1);
+    for place in (0..e.ilog2()).rev() {
+        p = digit(p, y, (e >> place) % 2 == 1);
     }
     p
 }
@@ -86,7 +83,8 @@ pub fn taken(x: Effect, repeats: u8) -> Repeated
     }
 }
 
-// The number of "then" that `taken` spends: with e one less than the repeats, the bit length of e, less 1, plus the ones in e.
+// The number of "then" that `taken` spends: with e one less than the repeats, the bit length of e, less 1, plus the ones in e. By leading
+// zeros, and not `ilog2`: the request names the form.
 pub fn steps_of(repeats: u8) -> u32
     ensures { result ≡ steps_of repeats }
 {
@@ -94,7 +92,7 @@ pub fn steps_of(repeats: u8) -> u32
         return 0;
     }
     let e = repeats as u32 - 1;
-    31 - u32::leading_zeros(e) + u32::count_ones(e)
+    31 - e.leading_zeros() + e.count_ones()
 }
 
 // The rounds of a call whose method returns by the exit x. A round leaves at most what the one before it left, so the lowest of some rounds

@@ -1,26 +1,20 @@
 -- "Mark 1 and at most", tested on the bytes of a sheet with no ill-formed block, is what the rules mean by it.
-use Prim.Native.Nat.{ℕ, ◌+◌, ◌*◌, ◌%◌, ◌<◌}
-use mathlib.Core.Path.{◌≡◌, refl}
+use Prim.Native.Nat.{ℕ, ◌<◌}
+use mathlib.Core.Path.{◌≡◌}
 use mathlib.Core.Logic.{◌↔◌}
-use mathlib.Core.Bool.{Bool, true, false, ◌&&◌}
+use mathlib.Core.Bool.{true}
 use mathlib.Core.List.{List}
-use native.Mathlib.Omega.{arith}
-use lib.Dec.{ltb}
-use borrow.Author.Tests.{le-ltb, ne_eqb}
 use Rattle.effect.specs.declared.Stock.{Stock}
 use Rattle.effect.specs.declared.Effect.{Effect}
-use Rattle.effect.specs.Whole.{normal_of}
 use Rattle.effect.proofs.Bools.{and_l, and_r, and_i}
 use Rattle.effect.proofs.Coordinate.{stock_at_sound, stock_at_complete, at_most_at_sound, at_most_at_complete}
 use Rattle.model.specs.Rules.{Below, AtMost}
 use Rattle.model.specs.Stocks.{permits}
 use Rattle.sheet_layout.specs.declared.Shape.{Shape}
-use Rattle.sheet_layout.specs.Layout.{method_at, exit_at, node_at, block_count, is_stock}
-use Rattle.sheet_layout.proofs.Blocks.{block_exit, block_node}
+use Rattle.sheet_layout.specs.Layout.{method_at, exit_at, node_at, block_count}
 use Rattle.sheet.specs.Read.{mark_at, stock_at, effect_at, marked}
 use Rattle.sheet.proofs.Back.{effect_read, stock_read}
 use Rattle.sheet_formed.specs.Ill.{first_ill}
-use Rattle.sheet_formed.proofs.Judged.{block_formed}
 use Rattle.sheet.specs.Under.{effect_under, stock_under}
 use Rattle.sheet_formed.specs.Sheet.{sheet_in}
 use Rattle.sheet.proofs.Marked.{mark_true, true_mark}

@@ -10,7 +10,6 @@ use native.Mathlib.Nat.{le_trans}
 use native.Mathlib.Omega.{arith}
 use native.Mathlib.Decide.{dec_lt}
 use Rattle.answer.specs.declared.Answer.TheVariants.{Pass}
-use Rattle.effect.specs.declared.Stock.{Stock}
 use Rattle.effect.specs.Meaning.{BelowAt, AtMostAt, LowestFailing}
 use Rattle.effect.proofs.Bools.{clash}
 use Rattle.effect.proofs.Failing.{fails_means, stock_fails_means}

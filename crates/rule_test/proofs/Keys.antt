@@ -1,15 +1,18 @@
 -- The least key: none that is asked has a lower one, and it is one that is asked or says that nothing is broken.
---   one ask       meets_is, key_broken, key_type, key_shape
+--   one ask       key_within, key_is, meets_is, key_broken, key_type, key_shape
 --   all asks      key_under, key_hit
 use Prim.Native.Nat.{ℕ, ◌+◌, ◌*◌, ◌≤◌, ◌<◌, min}
 use mathlib.Core.Path.{◌≡◌, refl, sym, ap, ◌∙◌}
 use mathlib.Core.Logic.{◌⊎◌, inl, inr, ⊎_elim}
-use mathlib.Core.Bool.{Bool, true, false, cond, ◌&&◌}
+use mathlib.Core.Bool.{Bool, true, false, ◌&&◌}
 use mathlib.Core.List.{List}
 use native.Mathlib.Omega.{arith}
 use native.Mathlib.Decide.{dec_le}
 use lib.Dec.{eqb}
 use borrow.Author.Tests.{ne_eqb}
+use Rattle.std.specs.Prelude.{is_some, IfSome, MatchOption, ⊤}
+use Rattle.std.specs.declared.option.Option.{Option}
+use Rattle.std.specs.declared.option.Option.TheVariants.{None, Some}
 use Rattle.effect.specs.declared.Effect.{Effect}
 use Rattle.effect.proofs.Failing.{fails_lowest, fails_none, stock_fails_lowest, stock_fails_none}
 use Rattle.graph_tables.specs.declared.Tables.{Tables}
@@ -22,12 +25,22 @@ use Rattle.rule_ask.specs.Walk.{Ask, of_effect, of_stock, rule_of, block_of, mee
 use Rattle.rule_ask.proofs.Asks.{Asks, at_start, of_row, RowAsks, at_entry, along_flow, at_return, at_throw, of_call, CallAsks, after_call, into_call, from_call, LeavingAsks, to_handler, to_exit}
 use Rattle.rule_ask.proofs.Keeps.{sheet_keeps}
 use Rattle.rule_ask.proofs.Shows.{sheet_shows}
-use Rattle.rule_test.specs.Keys.{fails_in, no_key, key_if, key_by, lessened, least_key}
+use Rattle.rule_test.specs.Keys.{fails_in, no_key, key_if, key_of, key_by, lessened, least_key}
 
 module _ (x : Shape) (s : List ℕ) where
   fails_within : (a : Ask) → fails_in x s a ≤ 6
   fails_within (of_effect r w e) = (fails_lowest _ e).within
   fails_within (of_stock r w h) = (stock_fails_lowest _ h).within
+
+  -- the key of a type that is looked for where the block is marked alone
+  module _ (a : Ask) (P : ℕ → Type 0) (h : (k : ℕ) → P k → k ≡ fails_in x s a) where
+    pub key_within : (r : Option ℕ) → IfSome r P → MatchOption r ⊤ (λ k. k ≤ 6)
+    key_within None p = tt
+    key_within (Some k) p = rw (h k p) (fails_within a)
+
+    pub key_is : (r : Option ℕ) → IfSome r P → is_some r ≡ marked s (block_of a) → key_of (rule_of a) r ≡ key_by x s a
+    key_is None p e = rw (sym e) refl
+    key_is (Some k) p e = rw (sym e) (ap (key_if true (rule_of a)) (h k p))
 
   -- what is asked is met where the block is marked and fails at no type
   meets_is : (a : Ask) → meets x s a ≡ (marked s (block_of a) && eqb (fails_in x s a) 6)

@@ -1,15 +1,15 @@
 -- What the rows ask on the bytes is what the rules name: of a well-formed sheet of a file that passes, each ask is of a block that a rule leads
 -- to and, at each coordinate, no less than what the rule names there; and for all that a rule names there is an ask that is at most that.
-use Prim.Native.Nat.{ℕ, suc, ◌+◌, ◌≤◌, ◌<◌}
-use mathlib.Core.Path.{◌≡◌, refl, sym, ap, subst, ◌∙◌}
+use Prim.Native.Nat.{ℕ, suc, ◌≤◌, ◌<◌}
+use mathlib.Core.Path.{◌≡◌, refl, sym, subst, ◌∙◌}
 use mathlib.Core.Logic.{inl, inr}
-use mathlib.Core.Bool.{Bool, true, false, ◌&&◌}
+use mathlib.Core.Bool.{Bool, true, false}
 use mathlib.Core.List.{List}
 use native.Mathlib.Nat.{le_refl}
 use native.Mathlib.Omega.{arith}
 use native.Mathlib.Numerals.{one-add}
 use lib.Dec.{leb}
-use borrow.Author.Tests.{le-leb, leb-true, eq-eqb, eqb-true, eqb-false, ne_eqb}
+use borrow.Author.Tests.{le-leb, leb-true, eq-eqb, eqb-true, ne_eqb}
 use Rattle.words.proofs.Tests.{and_l, and_r}
 use Rattle.answer.specs.declared.Answer.TheVariants.{Pass}
 use Rattle.effect.specs.declared.Stock.{Stock}
@@ -26,7 +26,7 @@ use Rattle.model.proofs.Setting.{then_low}
 use Rattle.model.proofs.Rounds.{Before, whole_under, whole_hit, earlier_under, earlier_hit}
 use Rattle.graph_tables.specs.declared.Tables.{Tables}
 use Rattle.graph_tables.specs.declared.Table.{Table}
-use Rattle.graph_tables.specs.declared.Table.TheVariants.{Methods, Nodes, Flow, Calls, Catches}
+use Rattle.graph_tables.specs.declared.Table.TheVariants.{Methods, Nodes, Flow, Calls}
 use Rattle.graph_tables.specs.Rows.{rows_of}
 use Rattle.graph_tables.specs.Trailer.{tables_of}
 use Rattle.graph_tables.specs.Kinds.{draw_kind, return_kind, throw_kind}
@@ -39,9 +39,9 @@ use Rattle.graph.proofs.Passed.{Judged, judged}
 use Rattle.graph.proofs.Rises.{rises}
 use Rattle.graph.proofs.Whole.{limits, formed}
 use Rattle.graph.proofs.Caught.{in_catches, of_catches, uncaught_true, uncaught_false}
-use Rattle.graph_rows.specs.Rows.{flow_of, catches_of, uncaught_of, target_of}
+use Rattle.graph_rows.specs.Rows.{catches_of, uncaught_of}
 use Rattle.graph_rows.proofs.Stretches.{In, in_stretch, of_stretch}
-use Rattle.graph_nodes.specs.Nodes.{opening_in, does_in}
+use Rattle.graph_nodes.specs.Nodes.{opening_in}
 use Rattle.graph_nodes.specs.Program.{program_of}
 use Rattle.graph_nodes.proofs.Setting.{setting}
 use Rattle.sheet_layout.specs.declared.Shape.{Shape}
@@ -50,8 +50,8 @@ use Rattle.sheet.specs.Read.{marked}
 use Rattle.sheet.proofs.Marked.{mark_true, true_mark}
 use Rattle.sheet_formed.specs.Sheet.{sheet_in}
 use Rattle.rule_ask.specs.declared.Gives.{Gives}
-use Rattle.rule_ask.specs.Gives.{goes_in, stepped_in, called_in, thrown_in, node_effect}
-use Rattle.rule_ask.specs.Walk.{Ask, of_effect, of_stock, rule_of}
+use Rattle.rule_ask.specs.Gives.{goes_in, stepped_in, called_in, thrown_in}
+use Rattle.rule_ask.specs.Walk.{Ask, of_effect, of_stock}
 use Rattle.rule_ask.proofs.Given as goal
 use Rattle.rule_ask.proofs.Asks.{LeavingAsks, to_handler, to_exit, CallAsks, after_call, into_call, from_call, RowAsks, at_entry, along_flow, at_return, at_throw, of_call, Asks, at_start, of_row}
 

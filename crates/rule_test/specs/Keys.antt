@@ -1,6 +1,8 @@
 -- The least key of what the rows ask: eight times the lowest rule that is broken and, behind it, the lowest type that fails in any place where
 -- that rule is broken, 6 where marks are all that is missing there.
 use Rattle.std.specs.Prelude.{ℕ, ◌+◌, ◌*◌, min, Bool, true, false, cond, List, eqb}
+use Rattle.std.specs.declared.option.Option.{Option}
+use Rattle.std.specs.declared.option.Option.TheVariants.{None, Some}
 use Rattle.effect.specs.Whole.{fails_of, stock_fails_of}
 use Rattle.graph_tables.specs.declared.Tables.{Tables}
 use Rattle.sheet_layout.specs.declared.Shape.{Shape}
@@ -20,6 +22,11 @@ no_key = 88
 abbrev pub key_if : Bool → ℕ → ℕ → ℕ
 key_if true r k = cond (eqb k 6) no_key (8 * r + k)
 key_if false r k = 8 * r + 6
+
+-- of a block by the rule r, from the type at which it fails, where it has its mark
+abbrev pub key_of : ℕ → Option ℕ → ℕ
+key_of r None = 8 * r + 6
+key_of r (Some k) = key_if true r k
 
 abbrev pub key_by : Shape → List ℕ → Ask → ℕ
 key_by x s a = key_if (marked s (block_of a)) (rule_of a) (fails_in x s a)

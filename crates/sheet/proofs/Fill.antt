@@ -1,18 +1,22 @@
--- What loops and literals leave, in a block that is read or written.
+-- What loops, literals and `from_fn` leave, in a block that is read or written.
 use Prim.Native.Nat.{ℕ, zero, suc, ◌+◌, ◌*◌, ◌≤◌, ◌<◌}
 use mathlib.Core.Path.{◌≡◌, refl, ap, subst, ◌∙◌}
-use mathlib.Core.List.{List, [], ◌∷◌, ◌++◌, append-nil}
-use lib.ListN.{length, get_or, take, drop, set, replicate, length-set, drop_of_length-le}
+use mathlib.Core.List.{List, [], ◌∷◌}
+use lib.ListN.{length, get_or, take, set, replicate, length-set}
 use native.Mathlib.Nat.{not-suc-le-zero, mul-le-mul_left, mul-suc}
-use native.Mathlib.Decide.{dec_lt}
+use native.Mathlib.Decide.{dec_lt, ℕ_discrete}
 use native.Mathlib.Numerals.{add-one}
 use native.Mathlib.Omega.{arith}
+use denote.Param.Members.{Mut, Called}
+use Rattle.std.specs.Array.{IsFromFnResult, IsFromFnResultFrom}
+use Rattle.std.proofs.lemmas.List.FromFn.{fill_by_all}
 use Rattle.words.specs.Write.{bytes_of}
 use Rattle.words.proofs.Splice.{bytes_same}
 use Rattle.sheet_layout.specs.Layout.{stock_size}
 use Rattle.effect.specs.declared.Stock.{Stock}
+use Rattle.effect.specs.Six.{six}
 use Rattle.effect.proofs.Six.{below_six}
-use Rattle.sheet.specs.Write.{stock_word, stock_bytes, laid_out, blanked}
+use Rattle.sheet.specs.Write.{stock_word, stock_bytes, laid_out}
 
 -- the turns of a loop over t types with n words each, at type k
 pub turns : (n : ℕ) {k t : ℕ} → k < t → n * k + n ≤ n * t
@@ -71,8 +75,14 @@ stock_laid x t h p q =
     ∙ to_six (λ t. take (stock_size t) (laid_out (laid_out (replicate 25 1) 2 1 x.rights t) 2 2 x.counts t) ≡ listed (stock_word x) (stock_size t))
     refl refl refl refl refl refl refl t h)
 
--- a sheet filled with 0 to its end
-pub blank_end : (s p : List ℕ) (i : ℕ) → i ≡ length s → p ≡ replicate i 0 ++ drop i s → p ≡ blanked s
-blank_end s p i e h =
-    let d : drop i s ≡ [] = drop_of_length-le s {i = i} (omega arith) in
-    h ∙ rw d (append-nil (replicate i 0)) ∙ ap (λ (n : ℕ). replicate n 0) e
+-- the array that `from_fn` makes, where each call leaves the closure as it is and gives what f says
+module _ {C : Type 0} {g : Mut C (ℕ × Unit {0}) ℕ} {c : C} (f : ℕ → ℕ) (calls : (k : ℕ) (y : ℕ) (d : C) → Called g c (k, tt) y d → (d ≡ c) × (y ≡ f k)) where
+  made_at : (ys : List ℕ) (n i : ℕ) → IsFromFnResultFrom g c ys i n → (k : ℕ) → i ≤ k → k < i + n → get_or ys k 0 ≡ f k
+  made_at ys zero i e k l m = absurd (omega arith)
+  made_at ys (suc n) i (d, y, e, p, r) k l m = elim (ℕ_discrete k i) [
+    | yes q ↦ rw q (e.1 0 ∙ (calls i y d p).1)
+    | no q ↦ made_at ys n (i + 1) (subst (λ (s : C). IsFromFnResultFrom g s ys (i + 1) n) (calls i y d p).0 r) k (omega arith) (omega arith)
+  ]
+
+  pub made_six : {ys : List ℕ} → IsFromFnResult g c ys 6 → ys ≡ six f
+  made_six {ys} e = fill_by_all f ys 6 0 e.long (λ k h. made_at ys 6 0 e.each k (omega arith) (omega arith))

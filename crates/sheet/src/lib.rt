@@ -1,16 +1,17 @@
 // The blocks of a sheet: read from lent bytes, and written where they stand in it.
 #![tactic(auto)]
 
-ghost use Rattle.std.specs.Prelude.{◌≡◌, true, ◌↔◌, ◌+◌, ◌*◌, ◌<◌, ◌≤◌, length, get_or};
+ghost use Rattle.std.specs.Prelude.{ℕ, ◌≡◌, true, ◌↔◌, ◌+◌, ◌*◌, ◌<◌, ◌≤◌, length, get_or};
 ghost use Rattle.sheet_layout.specs.Layout.{stock_size, effect_size};
 ghost use Rattle.effect.specs.Six.{six, held_at, one_at};
 ghost use Rattle.words.specs.Write.{splice, bytes_of};
 ghost use Rattle.sheet.specs.Read.{sheet_word, mark_at, marked, column, stock_at, effect_at};
-ghost use Rattle.sheet.specs.Inner.{one_words};
+ghost use Rattle.sheet.specs.Inner.{one_words, of_types};
 ghost use Rattle.sheet.specs.Write.{laid_out, stock_bytes, blanked};
 
 use effect::{Effect, Stock};
 use effect_one::{Held, One};
+use std::array;
 
 // Word k of the block whose first word is w.
 fn word(s: &[u8], w: usize, k: usize) -> u16
@@ -66,10 +67,8 @@ fn inner_column(s: &[u8], t: u16, w: usize, n: usize, j: usize, none: u16) -> [u
     ensures { result ≡ six (column s.now t w n j none) }
 {
     let mut c = [none; 6];
-    let mut k = 0;
-    while k < t as usize {
+    for k in 0..t as usize {
         c[k] = words::inner_word(s, 2 * (w + (j + n * k))) as u16;
-        k += 1;
     }
     c
 }
@@ -82,14 +81,7 @@ fn six_of(s: &[u8], t: u16, w: usize, n: usize, j: usize, none: u16) -> [u16; 6]
     if lies_in(s, t, w, n) {
         return inner_column(s, t, w, n, j, none);
     }
-    [
-        field(s, t, w, n, j, none, 0),
-        field(s, t, w, n, j, none, 1),
-        field(s, t, w, n, j, none, 2),
-        field(s, t, w, n, j, none, 3),
-        field(s, t, w, n, j, none, 4),
-        field(s, t, w, n, j, none, 5),
-    ]
+    array::from_fn(|k| field(s, t, w, n, j, none, k))
 }
 
 // The stock of the block whose first word is w, of t types.
@@ -115,23 +107,22 @@ pub fn inner_one(s: &[u8], w: usize, k: usize) -> One
     }
 }
 
-// The effect of a block that lies in the sheet, read type by type.
-fn inner_effect(s: &[u8], t: u16, w: usize) -> Effect
-    requires { (t ≤ 6) × (2 * (w + effect_size t) ≤ length s.now) }
-    ensures { result ≡ effect_at s.now t w }
+// The effect that does to each of t types what `one` says, and nothing to a type that the file does not have.
+pub fn effect_from_fn<F: Fn(usize) -> One>(t: u16, one: F) -> Effect
+    requires few { t ≤ 6 }
+    requires calls { (k : ℕ) → k < t → F.pre one k }
+    ensures { (f : ℕ → One) → ((k : ℕ) (x : One) → k < t → F.post one k x → x ≡ f k) → result ≡ of_types f t }
 {
     let mut keepin = [0; 6];
     let mut keepmax = [65535; 6];
     let mut cap = [255; 6];
     let mut drop = [0; 6];
-    let mut k = 0;
-    while k < t as usize {
-        let x = inner_one(s, w, k);
+    for k in 0..t as usize {
+        let x = one(k);
         keepin[k] = x.keepin;
         keepmax[k] = x.keepmax;
         cap[k] = x.cap;
         drop[k] = x.drop;
-        k += 1;
     }
     Effect {
         keepin,
@@ -139,6 +130,14 @@ fn inner_effect(s: &[u8], t: u16, w: usize) -> Effect
         cap,
         drop,
     }
+}
+
+// The effect of a block that lies in the sheet, read type by type.
+fn inner_effect(s: &[u8], t: u16, w: usize) -> Effect
+    requires { (t ≤ 6) × (2 * (w + effect_size t) ≤ length s.now) }
+    ensures { result ≡ effect_at s.now t w }
+{
+    effect_from_fn(t, |k| inner_one(s, w, k))
 }
 
 // The effect of the block whose first word is w, of t types.
@@ -184,11 +183,7 @@ pub fn one(s: &[u8], t: u16, w: usize, k: usize) -> One
 pub fn blank(s: &mut [u8])
     ensures { s.new ≡ blanked s.old }
 {
-    let mut i = 0;
-    while i < s.len() {
-        s[i] = 0;
-        i += 1;
-    }
+    s.fill(0);
 }
 
 // One field of t types goes into the words v of a block: type 0 at word j, and n words on for each further type.
@@ -197,10 +192,8 @@ fn laid(v: [u16; 25], t: u16, n: usize, j: usize, field: [u16; 6]) -> [u16; 25]
     ensures { result ≡ laid_out v n j field t }
 {
     let mut r = v;
-    let mut k = 0;
-    while k < t as usize {
+    for k in 0..t as usize {
         r[j + n * k] = field[k];
-        k += 1;
     }
     r
 }
@@ -220,9 +213,7 @@ pub fn write_stock(s: &mut [u8], t: u16, w: usize, x: Stock)
     requires { (2 * (w + stock_size t) ≤ length s.old) × (t ≤ 6) }
     ensures { s.new ≡ splice s.old (2 * w) (stock_bytes x t) }
 {
-    let rights = x.rights;
-    let counts = x.counts;
-    let v = laid(laid([1; 25], t, 2, 1, rights), t, 2, 2, counts);
+    let v = laid(laid([1; 25], t, 2, 1, x.rights), t, 2, 2, x.counts);
     let n = 1 + 2 * t as usize;
     put_block(s, w, &v[..n]);
 }

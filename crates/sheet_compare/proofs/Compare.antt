@@ -5,10 +5,13 @@ use mathlib.Core.Bool.{Bool, true, false, cond, not}
 use mathlib.Core.List.{List}
 use lib.Dec.{ltb, eqb}
 use lib.Bits.{bit_or, and_le_r}
-use borrow.Author.Count.{below_more}
-use borrow.Author.Tests.{ltb-true, ltb-false, ne_eqb, not-false}
+use borrow.Author.Tests.{ltb-true, ltb-false, ne_eqb}
 use native.Mathlib.Decide.{dec_lt}
 use native.Mathlib.Omega.{arith}
+use Rattle.std.specs.Prelude.{MatchOption}
+use Rattle.std.specs.declared.option.Option.{Option}
+use Rattle.std.specs.declared.option.Option.TheVariants.{None, Some}
+use Rattle.std.specs.Option.{unwrap_or}
 use Rattle.words.specs.Bytes.{word_at}
 use Rattle.words.specs.Four.{four_at}
 use Rattle.words.proofs.Read.{word_lt}
@@ -19,17 +22,16 @@ use Rattle.effect_one.specs.declared.One.{One}
 use Rattle.effect_one.specs.Single.{idle, apply_one}
 use Rattle.effect_one.specs.Formulas.{then_one, at_most_one}
 use Rattle.effect.specs.declared.Effect.{Effect}
-use Rattle.effect.specs.Six.{six, held_at, stock_of, one_at, effect_of}
+use Rattle.effect.specs.Six.{held_at, stock_of, one_at, effect_of}
 use Rattle.effect.specs.Whole.{one_if, nothing_done, apply_of, then_of, fails_of}
 use Rattle.effect.proofs.Count.{after_top}
 use Rattle.effect.proofs.Six.{stock_at_lem, effect_at_lem}
 use Rattle.effect.proofs.Single.{below_along, one_then, one_sound, one_complete, one_refl}
 use Rattle.effect.proofs.Laws.{Fits, apply_nothing}
 use Rattle.effect.proofs.Types.{then_idle}
-use Rattle.effect.proofs.Filled.{up_to}
 use Rattle.effect_number.specs.Number.{rights_after}
 use Rattle.sheet.specs.Read.{sheet_word, effect_at}
-use Rattle.sheet.specs.Inner.{one_words}
+use Rattle.sheet.specs.Inner.{one_words, of_types}
 use Rattle.sheet.proofs.Same.{six_same}
 use Rattle.sheet.proofs.Types.{one_read, idle_read}
 
@@ -79,26 +81,12 @@ pub word_small : (s : List ℕ) (w k : ℕ) → (one_words s w k).keepmax < 6553
 unfolding one_words
 word_small s w k = word_lt s (2 * (w + (2 + 4 * k)))
 
--- what a loop over the types finds, with r for the test of type k
-module _ (a b : Effect) where
-  abbrev pub UnderBelow : ℕ → Type 0
-  UnderBelow k = (j : ℕ) → j < k → at_most_one (one_at a j) (one_at b j) ≡ true
+-- what the block at w, then y for the type n, does to type k, and the test of it: the block at v against that
+abbrev pub step_at : List ℕ → ℕ → ℕ → One → ℕ → One
+step_at s w n y k = then_one (one_words s w k) (one_if (eqb k n) y)
 
-  module _ (k : ℕ) (before : UnderBelow k) {r : Bool} (test : r ≡ at_most_one (one_at a k) (one_at b k)) where
-    pub under_more : not r ≡ false → UnderBelow (k + 1)
-    under_more e = below_more (λ j. at_most_one (one_at a j) (one_at b j) ≡ true) k before (sym test ∙ not-false r e)
-
-    pub under_found : k < 6 → not r ≡ true → k ≡ fails_of a b
-    unfolding fails_of
-    under_found u e = sym (lowest_is (λ j. not (at_most_one (one_at a j) (one_at b j))) 6 k (λ j l. ap not (before j l)) u (ap not (sym test) ∙ e))
-
-  pub under_none : UnderBelow 6 → 6 ≡ fails_of a b
-  unfolding fails_of
-  under_none before = sym (lowest_none (λ j. not (at_most_one (one_at a j) (one_at b j))) 6 (λ j l. ap not (before j l)))
-
--- the test of type k: the block at v against that at w, then y for the type n
 abbrev pub under_at : List ℕ → ℕ → ℕ → ℕ → One → ℕ → Bool
-under_at s v w n y k = at_most_one (one_words s v k) (then_one (one_words s w k) (one_if (eqb k n) y))
+under_at s v w n y k = at_most_one (one_words s v k) (step_at s w n y k)
 
 idle_idle : (x : One) → x ≡ idle → at_most_one idle (then_one idle x) ≡ true
 unfolding idle
@@ -111,23 +99,19 @@ module _ (s : List ℕ) (t v w n : ℕ) (y : One) (few : t ≤ 6) (own : n < t) 
   abbrev After : Effect
   After = then_of (effect_at s t w) Step
 
+  own_at : (k : ℕ) → k < 6 → one_at Step k ≡ one_if (eqb k n) y
+  own_at = effect_at_lem (λ k. one_if (eqb k n) y)
+
   after_at : (k : ℕ) → k < 6 → one_at After k ≡ then_one (one_at (effect_at s t w) k) (one_if (eqb k n) y)
   unfolding then_of
-  after_at k l = effect_at_lem (λ k. then_one (one_at (effect_at s t w) k) (one_at Step k)) k l ∙ ap (then_one (one_at (effect_at s t w) k)) (effect_at_lem (λ k. one_if (eqb k n) y) k l)
+  after_at k l = effect_at_lem (λ k. then_one (one_at (effect_at s t w) k) (one_at Step k)) k l ∙ ap (then_one (one_at (effect_at s t w) k)) (own_at k l)
 
-  abbrev pub step_at : ℕ → One
-  step_at k = then_one (one_words s w k) (one_if (eqb k n) y)
+  other_idle : (k : ℕ) → t ≤ k → one_if (eqb k n) y ≡ idle
+  other_idle k u = ap (λ (b : Bool). one_if b y) (ne_eqb k n (λ e. omega arith))
 
-  -- a loop over the types makes the whole
-  pub step_all : ◌≡◌ {A = Effect}
-      (record {
-        keepin = six (up_to (λ k. (step_at k).keepin) 0 t);
-        keepmax = six (up_to (λ k. (step_at k).keepmax) 65535 t);
-        cap = six (up_to (λ k. (step_at k).cap) 255 t);
-        drop = six (up_to (λ k. (step_at k).drop) 0 t);
-      })
-      After
-  unfolding then_of idle
+  -- type by type it is the whole
+  pub step_all : of_types (step_at s w n y) t ≡ After
+  unfolding then_of idle of_types
   step_all =
       λ i. record {
         keepin = six_same (λ k l. field (λ x. x.keepin) k l (ltb k t) refl) i;
@@ -139,14 +123,11 @@ module _ (s : List ℕ) (t v w n : ℕ) (y : One) (few : t ≤ 6) (own : n < t) 
       whole : ℕ → One
       whole k = then_one (one_at (effect_at s t w) k) (one_at Step k)
 
-      step_at_lem : (k : ℕ) → k < 6 → one_at Step k ≡ one_if (eqb k n) y
-      step_at_lem k l = effect_at_lem (λ k. one_if (eqb k n) y) k l
-
-      field : (g : One → ℕ) (k : ℕ) → k < 6 → (b : Bool) → ltb k t ≡ b → cond b (g (step_at k)) (g idle) ≡ g (whole k)
-      field g k l true q = sym (ap g (λ i. then_one (one_read s t w k (ltb-true k t q) l i) (step_at_lem k l i)))
+      field : (g : One → ℕ) (k : ℕ) → k < 6 → (b : Bool) → ltb k t ≡ b → cond b (g (step_at s w n y k)) (g idle) ≡ g (whole k)
+      field g k l true q = sym (ap g (λ i. then_one (one_read s t w k (ltb-true k t q) l i) (own_at k l i)))
       field g k l false q =
           let u : t ≤ k = ltb-false k t q in
-          ap g (sym ((λ i. then_one (idle_read s t w k u l i) ((step_at_lem k l ∙ ap (λ (b : Bool). one_if b y) (ne_eqb k n (λ e. omega arith))) i)) ∙ then_idle))
+          ap g (sym ((λ i. then_one (idle_read s t w k u l i) ((own_at k l ∙ other_idle k u) i)) ∙ then_idle))
 
   type_had : (k : ℕ) → k < t → at_most_one (one_at (effect_at s t v) k) (one_at After k) ≡ under_at s v w n y k
   type_had k u =
@@ -156,22 +137,19 @@ module _ (s : List ℕ) (t v w n : ℕ) (y : One) (few : t ≤ 6) (own : n < t) 
   type_past : (k : ℕ) → t ≤ k → k < 6 → at_most_one (one_at (effect_at s t v) k) (one_at After k) ≡ true
   type_past k u l =
       let a = after_at k l ∙ ap (λ (x : One). then_one x (one_if (eqb k n) y)) (idle_read s t w k u l) in
-      (λ i. at_most_one (idle_read s t v k u l i) (a i)) ∙ idle_idle (one_if (eqb k n) y) (ap (λ (b : Bool). one_if b y) (ne_eqb k n (λ e. omega arith)))
+      (λ i. at_most_one (idle_read s t v k u l i) (a i)) ∙ idle_idle (one_if (eqb k n) y) (other_idle k u)
 
-  abbrev Before : ℕ → Type 0
-  Before k = (j : ℕ) → j < k → under_at s v w n y j ≡ true
-
-  module _ (k : ℕ) (before : Before k) {r : Bool} (test : r ≡ under_at s v w n y k) where
-    pub step_more : not r ≡ false → Before (k + 1)
-    step_more e = below_more (λ j. under_at s v w n y j ≡ true) k before (sym test ∙ not-false r e)
-
-    pub step_found : k < t → not r ≡ true → k ≡ fails_of (effect_at s t v) After
-    step_found u e = under_found (effect_at s t v) After k (λ j l. type_had j (omega arith) ∙ before j l) (test ∙ sym (type_had k u)) (omega arith) e
-
-  pub step_none : (k : ℕ) → Before k → t ≤ k → 6 ≡ fails_of (effect_at s t v) After
-  step_none k before u =
-      under_none (effect_at s t v) After
+  -- what `find` over the types that the file has gives, or 6
+  pub step_find : (r : Option ℕ)
+      → MatchOption r ((k : ℕ) → 0 ≤ k → k < t → not (under_at s v w n y k) ≡ false)
+      (λ i. (0 ≤ i) × (i < t) × (not (under_at s v w n y i) ≡ true) × ((k : ℕ) → 0 ≤ k → k < i → not (under_at s v w n y k) ≡ false))
+      → unwrap_or r 6 ≡ fails_of (effect_at s t v) After
+  unfolding fails_of
+  step_find None h =
+      sym (lowest_none _ 6
       (λ j l. elim (dec_lt j t) [
-        | yes h ↦ type_had j h ∙ before j (omega arith)
-        | no h ↦ type_past j (omega arith) l
-      ])
+        | yes u ↦ ap not (type_had j u) ∙ h j (omega arith) u
+        | no u ↦ ap not (type_past j (omega arith) l)
+      ]))
+  step_find (Some i) h =
+      sym (lowest_is _ 6 i (λ j l. ap not (type_had j (omega (arith, h.1))) ∙ h.3 j (omega arith) l) (omega (arith, h.1)) (ap not (type_had i h.1) ∙ h.2))

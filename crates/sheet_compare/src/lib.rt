@@ -21,10 +21,7 @@ fn one_under(s: &[u8], v: usize, w: usize, k: usize) -> bool
 {
     let here = words::inner_four(s, 2 * (v + (1 + 4 * k)));
     let there = words::inner_four(s, 2 * (w + (1 + 4 * k)));
-    if here == there {
-        return true;
-    }
-    effect_one::at_most(sheet::inner_one(s, v, k), sheet::inner_one(s, w, k))
+    here == there || effect_one::at_most(sheet::inner_one(s, v, k), sheet::inner_one(s, w, k))
 }
 
 // The same, where y is done to type n after what the block at w says.
@@ -46,14 +43,9 @@ pub fn stepped_fails(s: &[u8], t: u16, v: usize, w: usize, n: usize, y: One) -> 
     requires { (t ≤ 6) × (n < t) × (2 * (v + effect_size t) ≤ length s.now) × (2 * (w + effect_size t) ≤ length s.now) }
     ensures { result ≡ fails_of (effect_at s.now t v) (then_of (effect_at s.now t w) (effect_of (λ k. one_if (eqb k n) y))) }
 {
-    let mut k = 0;
-    while k < t as usize {
-        if !stepped_under(s, v, w, n, y, k) {
-            return k;
-        }
-        k += 1;
-    }
-    6
+    (0..t as usize)
+        .find(|k| !stepped_under(s, v, w, n, y, *k))
+        .unwrap_or(6)
 }
 
 // What the block at w, then y for the type n, does to type k.
@@ -62,6 +54,7 @@ fn stepped_one(s: &[u8], w: usize, n: usize, y: One, k: usize) -> One
     ensures { result ≡ then_one (one_words s.now w k) (one_if (eqb k n) y) }
 {
     let x = sheet::inner_one(s, w, k);
+    // asked before the call: a third less is computed where the compiler knows the step that does nothing
     if k != n {
         return effect_one::then(x, effect_one::nothing_done());
     }
@@ -73,25 +66,7 @@ pub fn stepped(s: &[u8], t: u16, w: usize, n: usize, y: One) -> Effect
     requires { (t ≤ 6) × (n < t) × (2 * (w + effect_size t) ≤ length s.now) }
     ensures { result ≡ then_of (effect_at s.now t w) (effect_of (λ k. one_if (eqb k n) y)) }
 {
-    let mut keepin = [0; 6];
-    let mut keepmax = [65535; 6];
-    let mut cap = [255; 6];
-    let mut drop = [0; 6];
-    let mut k = 0;
-    while k < t as usize {
-        let x = stepped_one(s, w, n, y, k);
-        keepin[k] = x.keepin;
-        keepmax[k] = x.keepmax;
-        cap[k] = x.cap;
-        drop[k] = x.drop;
-        k += 1;
-    }
-    Effect {
-        keepin,
-        keepmax,
-        cap,
-        drop,
-    }
+    sheet::effect_from_fn(t, |k| stepped_one(s, w, n, y, k))
 }
 
 // Type k of the block at v, which lies in the sheet, is at most y.
@@ -99,10 +74,12 @@ fn type_under(s: &[u8], t: u16, v: usize, k: usize, y: One) -> bool
     requires { (k < 6) × (2 * (v + effect_size t) ≤ length s.now) }
     ensures { result ≡ at_most_one (one_at (effect_at s.now t v) k) y }
 {
-    if k < t as usize {
-        return effect_one::at_most(sheet::inner_one(s, v, k), y);
-    }
-    effect_one::at_most(effect_one::nothing_done(), y)
+    let x = if k < t as usize {
+        sheet::inner_one(s, v, k)
+    } else {
+        effect_one::nothing_done()
+    };
+    effect_one::at_most(x, y)
 }
 
 // The lowest type at which the effect of a block that lies in the sheet is not at most e, or 6.
@@ -110,14 +87,9 @@ fn inner_fails(s: &[u8], t: u16, v: usize, e: Effect) -> usize
     requires { 2 * (v + effect_size t) ≤ length s.now }
     ensures { result ≡ fails_of (effect_at s.now t v) e }
 {
-    let mut k = 0;
-    while k < 6 {
-        if !type_under(s, t, v, k, effect::one_at(e, k)) {
-            return k;
-        }
-        k += 1;
-    }
-    6
+    (0..6)
+        .find(|k| !type_under(s, t, v, *k, effect::one_at(e, *k)))
+        .unwrap_or(6)
 }
 
 // The same of any block.
@@ -134,10 +106,7 @@ pub fn effect_fails(s: &[u8], t: u16, v: usize, e: Effect) -> usize
 pub fn effect_met(s: &[u8], x: Shape, v: usize, e: Effect) -> bool
     ensures { result ≡ effect_under s.now x v e }
 {
-    if sheet::is_marked(s, v) {
-        return effect_fails(s, x.types, v, e) == 6;
-    }
-    false
+    sheet::is_marked(s, v) && effect_fails(s, x.types, v, e) == 6
 }
 
 // The block at v has mark 1 and its effect is at most that at w, then y for the type n. Both blocks lie in the sheet.
@@ -145,8 +114,5 @@ pub fn stepped_met(s: &[u8], x: Shape, v: usize, w: usize, n: usize, y: One) -> 
     requires { (x.types ≤ 6) × (n < x.types) × (2 * (v + effect_size x.types) ≤ length s.now) × (2 * (w + effect_size x.types) ≤ length s.now) }
     ensures { result ≡ effect_under s.now x v (then_of (effect_at s.now x.types w) (effect_of (λ k. one_if (eqb k n) y))) }
 {
-    if sheet::is_marked(s, v) {
-        return stepped_fails(s, x.types, v, w, n, y) == 6;
-    }
-    false
+    sheet::is_marked(s, v) && stepped_fails(s, x.types, v, w, n, y) == 6
 }

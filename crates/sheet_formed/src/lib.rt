@@ -15,23 +15,14 @@ fn some_word(s: &[u8], w: usize, n: usize) -> bool
     requires { (w < 72057594037927936) × (n < 1048576) }
     ensures { result ≡ some_word s.now w n }
 {
-    let mut k = 0;
-    while k < n {
-        if words::word(s, 2 * (w + k)) != 0 {
-            return true;
-        }
-        k += 1;
-    }
-    false
+    (0..n).any(|k| words::word(s, 2 * (w + k)) != 0)
 }
 
 // No count is above 255.
 fn counts_fit(x: Stock) -> bool
     ensures { result ≡ counts_fit x }
 {
-    let c = x.counts;
-    (c[0] <= 255)
-        & ((c[1] <= 255) & ((c[2] <= 255) & ((c[3] <= 255) & ((c[4] <= 255) & (c[5] <= 255)))))
+    x.counts.iter().all(|c| *c <= 255)
 }
 
 // What a marked block holds may stand in it.
@@ -64,14 +55,7 @@ fn inner_some(s: &[u8], t: u16, w: usize) -> bool
     requires { (2 * (w + effect_size t) ≤ length s.now) × (mark_at s.now w ≡ 0) }
     ensures { result ≡ some_word s.now w (effect_size t) }
 {
-    let mut k = 0;
-    while k < t as usize {
-        if words::inner_four(s, 2 * (w + (1 + 4 * k))) != 0 {
-            return true;
-        }
-        k += 1;
-    }
-    false
+    (0..t as usize).any(|k| words::inner_four(s, 2 * (w + (1 + 4 * k))) != 0)
 }
 
 // An effect that lies in the sheet is normal.
@@ -79,14 +63,7 @@ fn inner_normal(s: &[u8], t: u16, w: usize) -> bool
     requires { (t ≤ 6) × (2 * (w + effect_size t) ≤ length s.now) }
     ensures { result ≡ normal_of (effect_at s.now t w) }
 {
-    let mut k = 0;
-    while k < t as usize {
-        if !effect_one::normal(sheet::inner_one(s, w, k)) {
-            return false;
-        }
-        k += 1;
-    }
-    true
+    (0..t as usize).all(|k| effect_one::normal(sheet::inner_one(s, w, k)))
 }
 
 // A block with an effect that lies in the sheet is ill formed.
@@ -121,12 +98,5 @@ pub fn first_ill(s: &[u8], x: Shape) -> u32
     ensures { result ≡ first_ill s.now x }
 {
     let n = sheet_layout::block_count(x);
-    let mut b = 0;
-    while b < n {
-        if block_ill(s, x, b) {
-            return b;
-        }
-        b += 1;
-    }
-    n
+    (0..n).find(|b| block_ill(s, x, *b)).unwrap_or(n)
 }

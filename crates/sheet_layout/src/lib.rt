@@ -13,6 +13,7 @@ pub struct Shape {
 }
 
 // A blank sheet, of which a part is as long as any file's sheet.
+#[tactic(auto, unfolding(crate::specs::Layout::longest_sheet))]
 pub fn longest_sheet() -> [u8; 56064]
     ensures { (result ≡ longest_sheet) × (56064 ≡ length result) }
 {
@@ -20,6 +21,7 @@ pub fn longest_sheet() -> [u8; 56064]
 }
 
 // The sheet's length.
+#[tactic(auto, using(crate::proofs::Bounds::node_lt), unfolding(crate::specs::Layout::sheet_bytes, crate::specs::Layout::sheet_words, crate::specs::Layout::node_at, crate::specs::Layout::method_at))]
 pub fn sheet_bytes(x: Shape) -> usize
     ensures { result ≡ sheet_bytes x }
 {
@@ -33,6 +35,7 @@ pub fn block_count(x: Shape) -> u32
 }
 
 // The first word of method m.
+#[tactic(auto, using(crate::proofs::Bounds::methods_lt), unfolding(crate::specs::Layout::method_at))]
 pub fn method_at(x: Shape, m: u16) -> usize
     ensures { result ≡ method_at x m }
 {
@@ -40,6 +43,7 @@ pub fn method_at(x: Shape, m: u16) -> usize
 }
 
 // The first word of exit e of method m.
+#[tactic(auto, using(crate::proofs::Bounds::method_lt, crate::proofs::Bounds::effects_lt), unfolding(crate::specs::Layout::exit_at))]
 pub fn exit_at(x: Shape, m: u16, e: u16) -> usize
     ensures { result ≡ exit_at x m e }
 {
@@ -47,6 +51,7 @@ pub fn exit_at(x: Shape, m: u16, e: u16) -> usize
 }
 
 // The first word of node n.
+#[tactic(auto, using(crate::proofs::Bounds::method_lt, crate::proofs::Bounds::effects_lt), unfolding(crate::specs::Layout::node_at))]
 pub fn node_at(x: Shape, n: u16) -> usize
     ensures { result ≡ node_at x n }
 {
@@ -63,6 +68,7 @@ pub fn is_stock(x: Shape, b: u32) -> bool
 }
 
 // How many words block b has.
+#[tactic(auto, unfolding(crate::specs::Layout::block_size))]
 pub fn block_size(x: Shape, b: u32) -> usize
     ensures { (result ≡ block_size x b) × (result < 1048576) }
 {
@@ -73,6 +79,7 @@ pub fn block_size(x: Shape, b: u32) -> usize
 }
 
 // The first word of block b.
+#[tactic(auto, using(crate::proofs::Bounds::method_lt, crate::proofs::Bounds::effects_lt, crate::proofs::Bounds::exit_lt), unfolding(crate::specs::Layout::block_at, crate::specs::Layout::node_at))]
 pub fn block_at(x: Shape, b: u32) -> usize
     ensures { (result ≡ block_at x b) × (result < 72057594037927936) }
 {

@@ -41,22 +41,16 @@ pub fn lower_effect(s: &mut [u8], t: u16, w: usize, e: Effect)
     requires { (2 * (w + effect_size t) ≤ length s.old) × (t ≤ 6) }
     ensures { s.new ≡ splice s.old (2 * w) (lowered_bytes s.old t w e) }
 {
-    let keepin = e.keepin;
-    let keepmax = e.keepmax;
-    let cap = e.cap;
-    let drop = e.drop;
     let old = sheet::is_marked(s, w);
-    let mut k = 0;
-    while k < t as usize {
+    for k in 0..t as usize {
         // read here: a call would copy the whole effect at every turn
         let x = One {
-            keepin: keepin[k],
-            keepmax: keepmax[k],
-            cap: cap[k],
-            drop: drop[k],
+            keepin: e.keepin[k],
+            keepmax: e.keepmax[k],
+            cap: e.cap[k],
+            drop: e.drop[k],
         };
         lower_one(s, w, k, old, x);
-        k += 1;
     }
     words::put_word(s, 2 * w, 1);
 }

@@ -7,6 +7,12 @@ use borrow.Author.Tests.{le-ltb, ltb-true, ltb-false}
 use native.Mathlib.Nat.{le_refl, lt_irrefl, not-suc-le-zero}
 use borrow.Author.Count.{below_more}
 use native.Mathlib.Omega.{arith}
+use native.Mathlib.Decide.{dec_lt}
+use borrow.Author.Rules.{rules}
+use Rattle.std.specs.Prelude.{MatchOption}
+use Rattle.std.specs.declared.option.Option.{Option}
+use Rattle.std.specs.declared.option.Option.TheVariants.{None, Some}
+use Rattle.std.specs.Option.{unwrap_or}
 use Rattle.words.specs.Lowest.{lowest}
 
 -- p holds of no number below i
@@ -51,6 +57,20 @@ scan_found p {n} {m} {i} q h l e = sym (lowest_is p m i h (rw q at l) e)
 
 pub scan_none : (p : ℕ → Bool) {n m i : ℕ} → n ≡ m → NoneBelow p i → n ≤ i → n ≡ lowest p m
 scan_none p {n} {m} {i} q h l = q ∙ sym (lowest_none p m (λ k w. h k (omega arith)))
+
+-- what `find` over the range 0..n gives, or n, where n is the number m of rows: `first_from_Range` of the library reads the clause of `find`
+pub find_lowest : (p : ℕ → Bool) {n m : ℕ} → n ≡ m → (r : Option ℕ)
+    → MatchOption r ((k : ℕ) → 0 ≤ k → k < n → p k ≡ false) (λ i. (0 ≤ i) × (i < n) × (p i ≡ true) × ((k : ℕ) → 0 ≤ k → k < i → p k ≡ false))
+    → unwrap_or r n ≡ lowest p m
+find_lowest p q None h = scan_none p q (λ k l. h k (search rules) l) (search rules)
+find_lowest p q (Some i) h = scan_found p q (λ k l. h.3 k (search rules) l) h.1 h.2
+
+-- the same over i..n, where p holds of nothing below i
+pub find_from : (p : ℕ → Bool) {n m i : ℕ} → n ≡ m → NoneBelow p i → (r : Option ℕ)
+    → MatchOption r ((k : ℕ) → i ≤ k → k < n → p k ≡ false) (λ j. (i ≤ j) × (j < n) × (p j ≡ true) × ((k : ℕ) → i ≤ k → k < j → p k ≡ false))
+    → unwrap_or r n ≡ lowest p m
+find_from p {n} {m} {i} q b None h = scan_none p q (λ k l. elim (dec_lt k i) [ yes u ↦ b k u | no u ↦ h k (omega arith) l ]) (search rules)
+find_from p {n} {m} {i} q b (Some j) h = scan_found p q (λ k l. elim (dec_lt k i) [ yes u ↦ b k u | no u ↦ h.3 k (omega arith) l ]) h.1 h.2
 
 -- at most n; p holds of nothing below it; and of it, where it is below n
 pub record Lowest (p : ℕ → Bool) (n r : ℕ) : Type 0 where

@@ -7,35 +7,36 @@ ghost use Rattle.words.specs.Four.{four_at};
 ghost use Rattle.words.specs.Write.{splice, word_bytes, bytes_of};
 
 // The byte at `at`.
+#[tactic(auto, unfolding(crate::specs::Bytes::byte_at))]
 pub fn byte(s: &[u8], at: usize) -> usize
     ensures { (result ≡ byte_at s.now at) × (result < 256) }
 {
-    if at < s.len() { s[at] as usize } else { 0 }
+    s.get(at).copied().unwrap_or(0) as usize
 }
 
 // The two bytes at `at`, low byte first.
+#[tactic(auto, unfolding(crate::specs::Bytes::word_at, crate::specs::Bytes::byte_at))]
 pub fn word(s: &[u8], at: usize) -> usize
     ensures { (result ≡ word_at s.now at) × (result < 65536) }
 {
-    let n = s.len();
-    if 1 < n {
-        if at < n - 1 {
-            return inner_word(s, at);
-        }
-        return byte(s, at);
+    if at < s.len().saturating_sub(1) {
+        inner_word(s, at)
+    } else {
+        byte(s, at)
     }
-    byte(s, at)
 }
 
 // The same, where both bytes are known to lie in the slice, so that nothing is tested.
+#[tactic(auto, unfolding(crate::specs::Bytes::word_at, crate::specs::Bytes::byte_at))]
 pub fn inner_word(s: &[u8], at: usize) -> usize
     requires { at + 2 ≤ length s.now }
     ensures { (result ≡ word_at s.now at) × (result < 65536) }
 {
-    s[at] as usize + 256 * (s[at + 1] as usize)
+    u16::from_le_bytes([s[at], s[at + 1]]) as usize
 }
 
 // Four such words as one number, so that they are compared at once.
+#[tactic(auto, unfolding(crate::specs::Four::four_at))]
 pub fn inner_four(s: &[u8], at: usize) -> usize
     requires { at + 8 ≤ length s.now }
     ensures { result ≡ four_at s.now at }
@@ -50,8 +51,7 @@ pub fn put_word(s: &mut [u8], at: usize, v: u16)
     requires { at + 2 ≤ length s.old }
     ensures { s.new ≡ splice s.old at (word_bytes v) }
 {
-    s[at] = (v % 256) as u8;
-    s[at + 1] = (v / 256) as u8;
+    s[at..at + 2].copy_from_slice(&v.to_le_bytes());
 }
 
 // A slice is filled with the words v.
@@ -59,16 +59,14 @@ pub fn put_words(s: &mut [u8], v: &[u16])
     requires { length s.old ≡ 2 * length v.now }
     ensures { s.new ≡ bytes_of (λ k. get_or v.now k 0) (length v.now) }
 {
-    let mut k = 0;
-    while k < v.len() {
-        put_word(s, 2 * k, v[k]);
-        k += 1;
+    for (k, word) in v.iter().enumerate() {
+        put_word(s, 2 * k, *word);
     }
 }
 
-// The smaller of two numbers.
+// The smaller of two numbers: std's `min`, under the name that the pages offer and wrong edits are tried on.
 pub fn smaller(a: usize, b: usize) -> usize
     ensures { result ≡ min a b }
 {
-    if a < b { a } else { b }
+    a.min(b)
 }

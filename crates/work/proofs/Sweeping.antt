@@ -5,13 +5,13 @@ use mathlib.Core.Bool.{Bool, true, not}
 use mathlib.Core.List.{List}
 use lib.ListN.{length}
 use Rattle.answer.specs.declared.Answer.TheVariants.{Pass, BadSheet}
-use Rattle.answer.specs.Number.{number_of, SaysAs}
-use Rattle.answer.proofs.Unpack.{zero_pass}
+use Rattle.answer.specs.Number.{SaysAs}
 use Rattle.answer.proofs.Settled.{says}
 use Rattle.graph_tables.specs.declared.Tables.{Tables}
 use Rattle.graph_tables.specs.Trailer.{tables_of}
 use Rattle.graph.specs.Judge.{judge_in, judge_of}
 use Rattle.graph.specs.declared.Judgement.{Judgement}
+use Rattle.graph.specs.declared.PassedGraph.{PassedGraph}
 use Rattle.graph.specs.Judgement.{shape_of, judged_of}
 use Rattle.graph.proofs.Whole.{own_shape}
 use Rattle.sheet_layout.specs.declared.Shape.{Shape}
@@ -69,28 +69,23 @@ module _ {f : List ℕ} {t : Tables} {x : Shape} {s : List ℕ} (ready : Ready f
   pub answers : {r : List ℕ} → Settled f t x (blanked s) r → WorksOut f s r (verdict_of f t x r)
   answers {r} = own (λ y z. Settled f y z (blanked s) r → WorksOut f s r (verdict_of f y z r)) (λ h. verdict f s r long (settled_worked f pass s long h))
 
--- a sheet that is as long as the file asks for is ready, and one that is not is refused
-abbrev pub Fitting : List ℕ → Tables → Shape → Type 0
-Fitting f t x = (judge_in f t ≡ Pass) × (t ≡ tables_of f) × (x ≡ shape_of t)
-
 -- what the judgement of a file that passes says
-pub passed_fitting : (f : List ℕ) (j : Judgement) → j ≡ judged_of f → number_of j.answer ≡ 0 → Fitting f j.tables j.shape
+pub passed_fitting : (f : List ℕ) (j : Judgement) → j ≡ judged_of f → j.answer ≡ Pass → (judge_of f ≡ Pass) × (j.tables ≡ tables_of f) × (j.shape ≡ shape_of j.tables)
 passed_fitting f j e n =
-    let p : judge_of f ≡ Pass = zero_pass _ (ap (λ y. number_of y.answer) (sym e) ∙ n) in
+    let p : judge_of f ≡ Pass = ap (λ y. y.answer) (sym e) ∙ n in
     let t = ap (λ y. y.tables) e in
-    (ap (judge_in f) t ∙ p, t, ap (λ y. y.shape) e ∙ own_shape f p ∙ ap shape_of (sym t))
+    (p, t, ap (λ y. y.shape) e ∙ own_shape f p ∙ ap shape_of (sym t))
 
 -- and of one that does not
-pub judged_refused : (f : List ℕ) (j : Judgement) → j ≡ judged_of f → (number_of j.answer ≡ 0 → ⊥) → (judge_of f ≡ Pass → ⊥) × SaysAs j.answer (judge_of f)
+pub judged_refused : (f : List ℕ) (j : Judgement) → j ≡ judged_of f → (j.answer ≡ Pass → ⊥) → (judge_of f ≡ Pass → ⊥) × SaysAs j.answer (judge_of f)
 judged_refused f j e n =
     let a = ap (λ y. y.answer) e in
-    (λ p. n (ap number_of (a ∙ p)), rw a (says (judge_of f)))
+    (λ p. n (a ∙ p), rw a (says (judge_of f)))
 
-module _ {f : List ℕ} {t : Tables} {x : Shape} {s : List ℕ} (fit : Fitting f t x) where
-  pub make_ready : length s ≡ sheet_bytes x → Ready f t x s
-  make_ready l = record { passed = fit.0; own = fit.1; shaped = fit.2; long = l }
+-- of a file that passes: a sheet that is as long as it asks for is ready, and one that is not is refused
+module _ (p : PassedGraph) {s : List ℕ} where
+  pub make_ready : length s ≡ sheet_bytes p.shape → Ready p.graph.file.now p.graph.tables p.shape s
+  make_ready l = record { passed = ap (judge_in p.graph.file.now) p.tables_are ∙ p.passes; own = p.tables_are; shaped = p.shape_is; long = l }
 
-  pub refused_length : (length s ≡ sheet_bytes x → ⊥) → WorksOut f s s BadSheet
-  refused_length n =
-      wrong_length (subst (λ y. judge_in f y ≡ Pass) fit.1 fit.0)
-      (λ l. n (subst (λ y. length s ≡ sheet_bytes y) (sym fit.2) (subst (λ y. length s ≡ sheet_bytes (shape_of y)) (sym fit.1) l))) refl (says BadSheet)
+  pub refused_length : (length s ≡ sheet_bytes p.shape → ⊥) → WorksOut p.graph.file.now s s BadSheet
+  refused_length n = wrong_length p.passes (λ l. n (l ∙ ap sheet_bytes (sym (p.shape_is ∙ ap shape_of p.tables_are)))) refl (says BadSheet)

@@ -1,42 +1,28 @@
 use mathlib.Core.Path.{◌≡◌, sym, ap, ◌∙◌}
-use borrow.Author.Tests.{eq-eqb, ne_eqb}
-use Rattle.answer.specs.declared.Answer.TheVariants.{Pass}
+use native.Mathlib.Omega.{arith}
+use borrow.Author.Tests.{ne_eqb}
 use Rattle.answer.specs.Number.{number_of}
-use Rattle.answer.proofs.Unpack.{zero_pass}
-use Rattle.graph.specs.Judge.{judge_of, judge_in}
-use Rattle.graph.proofs.Passed as passing
-use Rattle.graph.proofs.Rises.{rises}
-use Rattle.graph.proofs.Whole.{own_shape}
-use Rattle.accept.specs.Check.{judged_sheet, check_of}
+use Rattle.graph.specs.Judge.{judge_of}
+use Rattle.accept.specs.Check.{check_of}
 use Rattle.accept.proofs.Meaning.{all_ensured}
+use Rattle.accept.proofs.Many.{relies, as_checked}
 use Rattle.accept.proofs.check.Goals as goal
 
 pub of_judged-requires : goal.of_judged-requires
-of_judged-requires c =
-    let f = c.args.f.now in
-    let p : judge_of f ≡ Pass = zero_pass _ (ap (λ x. number_of x.answer) (sym c.judged-j.ensures.equals) ∙ sym c.number.ensures ∙ c.if-number-eq0.true) in
-    let t = c.judged-j.result.tables in
-    (rises f t (passing.judged f t (ap (λ x. judge_in f x.tables) c.judged-j.ensures.equals ∙ p)), c.judged-j.ensures.within)
+of_judged-requires c = relies c.in-Ok.p
 
-pub returns-then-number-eq0 : goal.returns-then-number-eq0
-unfolding check_of
-returns-then-number-eq0 c =
+pub returns-in-Ok : goal.returns-in-Ok
+returns-in-Ok c =
     let a = c.args in
-    let f = a.f.now in
-    let j = c.judged-j.ensures.equals in
-    let n : number_of (judge_of f) ≡ 0 = ap (λ x. number_of x.answer) (sym j) ∙ sym c.number.ensures ∙ c.if-number-eq0.true in
-    let all = all_ensured f a.s.now
-    (c.of_judged.ensures
-    ∙ (λ i. judged_sheet f (j i).tables ((ap (λ y. y.shape) j ∙ own_shape f (zero_pass _ n)) i) a.s.now)
-    ∙ simp (eq-eqb _ _ n)) in
+    let same = rw c.in-Ok.is at c.pass.ensures.passes in
+    let all = all_ensured a.f.now a.s.now (c.of_judged.ensures ∙ as_checked c.in-Ok.p a.s.now ∙ ap (λ f. check_of f a.s.now) same) in
     record { equals = all.0; means = all.1.0; safe = all.1.1 }
 
-pub returns : goal.returns
+pub returns-in-Err : goal.returns-in-Err
 unfolding check_of
-returns c =
+returns-in-Err c =
     let a = c.args in
-    let f = a.f.now in
-    let j = c.judged-j.ensures.equals in
-    let n : number_of (judge_of f) ≡ 0 → ⊥ = λ e. c.if-number-eq0.false (c.number.ensures ∙ ap (λ x. number_of x.answer) j ∙ e) in
-    let all = all_ensured f a.s.now (ap (λ x. x.answer) j ∙ simp (ne_eqb _ _ n)) in
+    let refused = rw c.in-Err.is at c.pass.ensures.refusal in
+    let n : number_of (judge_of a.f.now) ≡ 0 → ⊥ = λ z. omega (arith, refused.1, ap number_of (sym refused.0) ∙ z) in
+    let all = all_ensured a.f.now a.s.now (sym refused.0 ∙ simp (ne_eqb _ _ n)) in
     record { equals = all.0; means = all.1.0; safe = all.1.1 }

@@ -1,31 +1,24 @@
 use mathlib.Core.Path.{◌≡◌, refl, sym, ap, ◌∙◌}
+use native.Mathlib.Omega.{arith}
 use Rattle.answer.specs.declared.Answer.TheVariants.{Pass}
 use Rattle.answer.specs.Number.{number_of}
-use Rattle.answer.proofs.Unpack.{zero_pass}
 use Rattle.answer.proofs.Settled.{says}
 use Rattle.graph.specs.Judge.{judge_of}
-use Rattle.graph.proofs.Whole.{own_shape}
 use Rattle.accept.specs.Many.{ChecksMany, refused}
 use Rattle.accept.proofs.Many.{safe_row}
 use Rattle.accept.proofs.check_many.Goals as goal
 
-pub many_of_passed-requires : goal.many_of_passed-requires
-many_of_passed-requires c =
-    let f = c.args.f.now in
-    let j = c.judged-found.ensures.equals in
-    let p : judge_of f ≡ Pass = zero_pass _ (ap (λ x. number_of x.answer) (sym j) ∙ sym c.number.ensures ∙ c.if-number-eq0.true) in
-    (p, ap (λ x. x.tables) j, ap (λ x. x.shape) j ∙ own_shape f p)
-
-pub returns-then-number-eq0 : goal.returns-then-number-eq0
-returns-then-number-eq0 c =
-    let many = c.many_of_passed.ensures in
+pub returns-in-Ok : goal.returns-in-Ok
+returns-in-Ok c =
+    let same = rw c.in-Ok.is at c.pass-passed.ensures.passes in
+    let many = rw same at c.many_of_passed.ensures in
     record { means = many; safe = safe_row _ _ many }
 
-pub returns : goal.returns
-returns c =
+pub returns-in-Err : goal.returns-in-Err
+returns-in-Err c =
     let a = c.args in
     let f = a.f.now in
-    let e = ap (λ x. x.answer) c.judged-found.ensures.equals in
-    let n : judge_of f ≡ Pass → ⊥ = λ p. c.if-number-eq0.false (c.number.ensures ∙ ap number_of (e ∙ p)) in
-    let many : ChecksMany f a.sheets.now a.row.now a.row.now c.judged-found.result.answer = refused n refl (rw e (says (judge_of f))) in
+    let no = rw c.in-Err.is at c.pass-passed.ensures.refusal in
+    let n : judge_of f ≡ Pass → ⊥ = λ p. omega (arith, no.1, ap number_of (sym no.0 ∙ p)) in
+    let many : ChecksMany f a.sheets.now a.row.now a.row.now c.in-Err.refusal = refused n refl (rw no.0 (says c.in-Err.refusal)) in
     record { means = many; safe = safe_row _ _ many }

@@ -10,12 +10,12 @@ pub returns-then-key-lt-NONE : goal.returns-then-key-lt-NONE
 unfolding whole_sheet
 returns-then-key-lt-NONE c =
     let a = c.args in
-    let l : least_key a.f.now a.t a.x a.s.now < no_key = rw (← c.least_key-key.ensures) c.if-key-lt-NONE.true in
+    let l : least_key a.g.now.file.now a.g.now.tables a.x a.s.now < no_key = rw (← c.least_key-key.ensures) c.if-key-lt-NONE.true in
     ap (λ k. Broken (k / 8) (k % 8)) c.least_key-key.ensures ∙ simp (lt-ltb _ _ l)
 
 pub returns : goal.returns
 unfolding whole_sheet
 returns c =
     let a = c.args in
-    let l : no_key ≤ least_key a.f.now a.t a.x a.s.now = rw (← c.least_key-key.ensures) c.if-key-lt-NONE.false in
+    let l : no_key ≤ least_key a.g.now.file.now a.g.now.tables a.x a.s.now = rw (← c.least_key-key.ensures) c.if-key-lt-NONE.false in
     c.verdict.ensures ∙ simp (le-ltb _ _ l)

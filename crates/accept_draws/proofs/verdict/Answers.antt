@@ -1,19 +1,25 @@
-use Prim.Native.Nat.{◌<◌, ◌≤◌}
-use mathlib.Core.Path.{ap, ◌∙◌}
+use mathlib.Core.Path.{◌≡◌, ◌∙◌}
+use mathlib.Core.Bool.{true, false}
+use borrow.Author.Rules.{rules}
 use borrow.Author.Tests.{lt-ltb, le-ltb}
-use Rattle.words.specs.Lowest.{lowest}
-use Rattle.graph_places.specs.Places.{overdrawn_at}
+use native.Mathlib.Nat.{le_refl}
+use Rattle.std.proofs.lemmas.Iterator.{first_from_Range}
+use Rattle.words.proofs.Lowest.{lowest_is, lowest_none}
 use Rattle.accept_draws.specs.Draws.{uncovered_at}
 use Rattle.accept_draws.proofs.verdict.Goals as goal
 
-pub returns-then-n-t : goal.returns-then-n-t
-returns-then-n-t c =
+pub returns-in-Some : goal.returns-in-Some
+returns-in-Some c =
     let a = c.args in
-    let k : lowest (uncovered_at a.f.now a.t a.x a.s.now) a.t.nodes < a.t.nodes = rw (← c.first_uncovered-n.ensures) c.if-n-t.true in
-    c.overdrawn_at.ensures ∙ ap (overdrawn_at a.f.now a.t) c.first_uncovered-n.ensures ∙ simp (lt-ltb _ _ k)
+    let q = uncovered_at a.g.now.file.now a.g.now.tables a.x a.s.now in
+    let w = rw c.in-Some.is at (first_from_Range _ _ _ _ (λ k. q k ≡ true) (λ k. q k ≡ false) c.find.ensures.ran (λ x q k. search rules) (λ x q k. search rules)) in
+    let e = lowest_is q a.g.now.tables.nodes c.in-Some.n (λ k l. w.3 k (search rules) l) w.1 w.2 in
+    c.overdrawn_at.ensures ∙ simp (e, lt-ltb _ _ w.1)
 
-pub returns : goal.returns
-returns c =
+pub returns-in-None : goal.returns-in-None
+returns-in-None c =
     let a = c.args in
-    let k : a.t.nodes ≤ lowest (uncovered_at a.f.now a.t a.x a.s.now) a.t.nodes = rw (← c.first_uncovered-n.ensures) c.if-n-t.false in
-    simp (le-ltb _ _ k)
+    let q = uncovered_at a.g.now.file.now a.g.now.tables a.x a.s.now in
+    let w = rw c.in-None.is at (first_from_Range _ _ _ _ (λ k. q k ≡ true) (λ k. q k ≡ false) c.find.ensures.ran (λ x q k. search rules) (λ x q k. search rules)) in
+    let e = lowest_none q a.g.now.tables.nodes (λ k l. w k (search rules) l) in
+    simp (e, le-ltb _ _ (le_refl a.g.now.tables.nodes))

@@ -1,8 +1,9 @@
 use Prim.Native.Nat.{◌*◌, ◌/◌, ◌≤◌}
-use mathlib.Core.Path.{◌≡◌, sym, ap, ◌∙◌}
+use mathlib.Core.Path.{◌≡◌, sym, ap, subst, ◌∙◌}
 use native.Mathlib.Nat.{mul-le-mul}
 use native.Mathlib.Omega.{arith}
 use Rattle.sheet_layout.specs.Layout.{sheet_bytes}
+use Rattle.accept_row.specs.Counts.{Counts}
 use Rattle.sheet_layout.proofs.Bounds.{sheet_le}
 use Rattle.accept_row.proofs.count_of.Goals as goal
 
@@ -18,7 +19,7 @@ overflow_mul-count-2 c =
 pub returns-then-bytes-count : goal.returns-then-bytes-count
 returns-then-bytes-count c =
     record {
-      some = λ l. omega arith;
+      some = λ k e. absurd (cc e);
       none = λ z k h.
           let a = c.args in
           let e : k ≡ a.numbers / 2 = omega (arith, h.two) in
@@ -28,4 +29,5 @@ returns-then-bytes-count c =
 pub returns : goal.returns
 returns c =
     let count = c.args.numbers / 2 in
-    record { some = λ l. record { some = l; few = omega arith; whole = c.if-bytes-count.false ∙ ap (λ z. count * z) c.sheet_bytes.ensures; two = omega arith }; none = λ z k h. omega (arith, h.two, h.some) }
+    let all : Counts (sheet_bytes c.args.x) c.args.bytes c.args.numbers count = record { some = omega arith; few = omega arith; whole = c.if-bytes-count.false ∙ ap (λ z. count * z) c.sheet_bytes.ensures; two = omega arith } in
+    record { some = λ k e. subst (Counts (sheet_bytes c.args.x) c.args.bytes c.args.numbers) (cc e) all; none = λ e. absurd (cc e) }

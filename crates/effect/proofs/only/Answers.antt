@@ -1,8 +1,7 @@
-use Rattle.effect.proofs.Filled.{one_set, none_set}
+use borrow.Author.Rules.{rules}
+use lib.Dec.{eqb}
+use Rattle.effect.specs.Apply.{one_if}
 use Rattle.effect.proofs.only.Goals as goal
 
-pub returns-then-n-lt6 : goal.returns-then-n-lt6
-returns-then-n-lt6 c = one_set c.args.x c.args.n c.if-n-lt6.true
-
-pub returns-else-n-lt6 : goal.returns-else-n-lt6
-returns-else-n-lt6 c = none_set c.args.x c.args.n c.if-n-lt6.false
+pub returns : goal.returns
+returns c = c.effect_of.ensures (λ k. one_if (eqb k c.args.n) c.args.x) (λ k x l q. search rules)

@@ -11,9 +11,9 @@ returns-then-t-lt6 c =
     let all = tells_covers a.s a.t a.rights (simp (lt-ltb a.t 6 (omega arith), c.held_at.ensures, c.covers.ensures)) in
     record { equals = all.0; means = all.1 }
 
-pub returns : goal.returns
+pub returns-else-t-lt6 : goal.returns-else-t-lt6
 unfolding covers_of
-returns c =
+returns-else-t-lt6 c =
     let a = c.args in
     let all = tells_covers a.s a.t a.rights (simp (le-ltb a.t 6 (omega arith))) in
     record { equals = all.0; means = all.1 }

@@ -1,20 +1,15 @@
-use mathlib.Core.Path.{ap, sym, ◌∙◌}
+use Prim.Native.Nat.{ℕ}
+use mathlib.Core.Path.{◌≡◌}
+use borrow.Author.Rules.{rules}
 use lib.ListN.{get_or}
-use native.Mathlib.Omega.{arith}
-use Rattle.rule_ask.proofs.Turned.{turned_inside}
-use Rattle.engine_flags.proofs.Flags.{clear_one}
+use Rattle.std.proofs.lemmas.Iterator.{first_from_Range}
+use Rattle.rule_ask.specs.Gives.{turned}
+use Rattle.engine_flags.proofs.Flags.{next_found}
 use Rattle.engine_flags.proofs.next.Goals as goal
 
-pub bounds-area-at_step : goal.bounds-area-at_step
-bounds-area-at_step c =
+pub returns : goal.returns
+returns c =
     let a = c.args in
-    omega (arith, c.at_step.ensures, turned_inside a.backwards a.n c.loop-j.j c.loop-j-test.true, c.requires.1)
-
-pub overflow_add-j : goal.overflow_add-j
-overflow_add-j c = omega (arith, c.loop-j-test.true, c.requires.2)
-
-pub loop-j-preserved : goal.loop-j-preserved
-loop-j-preserved c =
-    let inv = c.loop-j.invariant in
-    let a = c.args in
-    (omega (arith, inv.0), omega (arith, c.loop-j-test.true), clear_one a.area.now a.backwards a.n a.k c.loop-j.j inv.2 (ap (λ v. get_or a.area.now v 0) (sym c.at_step.ensures) ∙ c.if-area-at_step-ne0.false))
+    let flag : ℕ → ℕ = λ j. get_or a.area.now (turned a.backwards a.n j) 0 in
+    next_found a.area.now a.backwards a.n a.k c.past_eights-start.result _ _ c.past_eights-start.ensures
+    (first_from_Range _ _ _ _ (λ j. flag j ≡ 0 → ⊥) (λ j. flag j ≡ 0) c.find.ensures.ran (λ x q k. search rules) (λ x q k. search rules))

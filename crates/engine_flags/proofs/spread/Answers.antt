@@ -3,9 +3,6 @@ use native.Mathlib.Omega.{arith}
 use Rattle.engine_flags.proofs.Flags.{call_inside}
 use Rattle.engine_flags.proofs.spread.Goals as goal
 
-pub forget-requires : goal.forget-requires
-forget-requires c = c.pass_all_on.ensures.0.long ∙ c.requires.wide
-
 pub returns : goal.returns
 returns c =
     let on = c.pass_all_on.ensures in

@@ -1,15 +1,12 @@
+use mathlib.Core.Path.{sym}
 use native.Mathlib.Omega.{arith}
-use mathlib.Core.Path.{◌∙◌}
-use Rattle.engine_flags.proofs.Flags.{wait_more}
+use borrow.Author.Rules.{rules}
+use Rattle.std.proofs.lemmas.List.{length-take-le}
+use Rattle.engine_flags.proofs.Flags.{first_wait}
 use Rattle.engine_flags.proofs.wake_nodes.Goals as goal
 
-pub loop-i-preserved : goal.loop-i-preserved
-loop-i-preserved c =
-    let inv = c.loop-i.invariant in
-    let woke = c.wake.ensures in (
-      woke.0.long ∙ inv.0,
-      wait_more (λ k. k) woke.0 inv.1 woke.1,
-    )
+pub slice_bounds-fill-end-2 : goal.slice_bounds-fill-end-2
+slice_bounds-fill-end-2 c = sym (length-take-le _ c.args.area.now (omega (arith, c.requires)))
 
 pub returns : goal.returns
-returns c = (c.loop-i.invariant.0, λ k l. c.loop-i.invariant.1 k (omega arith) (omega (arith, l, c.loop-i-test.false)))
+returns c = (search rules, first_wait c.args.area.now _ _ (c.fill.ensures.after (λ y e. search rules)) (omega (arith, c.requires)))

@@ -2,16 +2,10 @@ use native.Mathlib.Omega.{arith}
 use Rattle.engine_queue.proofs.Moves.{stretch_more}
 use Rattle.engine_queue.proofs.each.Goals as goal
 
-pub row-one-requires : goal.row-one-requires
-row-one-requires c = (c.loop-j.invariant.2.moved.queue, omega (arith, c.requires.1, c.loop-j-test.true))
-
-pub overflow_add-j : goal.overflow_add-j
-overflow_add-j c = omega (arith, c.loop-j-test.true, c.well_formed.1.1.1.1.1.1)
-
 pub loop-j-preserved : goal.loop-j-preserved
 loop-j-preserved c =
     let inv = c.loop-j.invariant in
-    (omega (arith, inv.0), omega (arith, inv.0, c.loop-j-test.true), stretch_more c.args.table c.loop-j.wrote c.row-one.result inv.0 inv.2 c.row-one.ensures)
+    (omega (arith, inv.0), omega (arith, inv.0, c.loop-j-test.true), stretch_more c.args.table c.loop-j.wrote c.row-wrote.result inv.0 inv.2 c.row-wrote.ensures)
 
 pub returns : goal.returns
 returns c =

@@ -1,19 +1,14 @@
-use mathlib.Core.Path.{◌≡◌, ap, ◌∙◌}
-use native.Mathlib.Decide.{dec_lt}
-use native.Mathlib.Omega.{arith}
+use Prim.Native.Nat.{ℕ}
+use mathlib.Core.Path.{◌≡◌, refl}
 use borrow.Author.Rules.{rules}
+use Rattle.std.proofs.lemmas.Iterator.{cases_from_any, YieldsList-from_range}
 use Rattle.graph_tables.specs.Fields.{flow_to}
+use Rattle.engine_queue.proofs.Ranges.{none_within}
 use Rattle.engine_queue.proofs.leads_back.Goals as goal
 
-pub overflow_add-j : goal.overflow_add-j
-overflow_add-j c = omega (arith, c.loop-j-test.true, c.well_formed.1.1.1)
-
-pub loop-j-preserved : goal.loop-j-preserved
-loop-j-preserved c =
+pub returns : goal.returns
+returns c =
     let a = c.args in
-    let j = c.loop-j.j in
-    let elsewhere : c.flow_to.result ≡ a.n → ⊥ = search rules in
-    λ i p q e. elim (dec_lt i j) [
-      | yes u ↦ c.loop-j.invariant i p u e
-      | no u ↦ let z : j ≡ i = omega arith in elsewhere (c.flow_to.ensures ∙ ap (flow_to a.f.now a.t) z ∙ e)
-    ]
+    let back : ℕ → Type 0 = λ j. flow_to a.g.now.file.now a.g.now.tables j ≡ a.n in
+    none_within a.z.from a.z.to _ (λ j. back j → ⊥) _
+    (cases_from_any _ _ _ back (λ j. back j → ⊥) c.any.ensures.ran (YieldsList-from_range a.z.from a.z.to _ refl refl) (λ j q k. search rules) (λ j q k. search rules))

@@ -1,3 +1,4 @@
+use borrow.Author.Tests.{eqb-true, eqb-false}
 use mathlib.Core.Path.{sym, ◌∙◌}
 use native.Mathlib.Omega.{arith}
 use Rattle.graph_tables.specs.declared.Table.TheVariants.{Calls}
@@ -12,11 +13,8 @@ calls_of-requires c = sorted c.requires.0.ready
 pub each-requires : goal.each-requires
 each-requires c = (c.requires.0, rw c.calls_of.ensures (to_within _ _ Calls _))
 
-pub returns-then-node_kind-eq-CALL : goal.returns-then-node_kind-eq-CALL
-returns-then-node_kind-eq-CALL c = node_calls c.requires.0 c.args.n c.each.result (sym c.node_kind.ensures.0 ∙ c.if-node_kind-eq-CALL.true) (rw c.calls_of.ensures at c.each.ensures)
-
-pub row-requires : goal.row-requires
-row-requires c = (c.requires.0, c.requires.1)
+pub returns-then-is_kind : goal.returns-then-is_kind
+returns-then-is_kind c = node_calls c.requires.0 c.args.n c.each.result (eqb-true _ _ (sym c.is_kind.ensures ∙ c.if-is_kind.true)) (rw c.calls_of.ensures at c.each.ensures)
 
 pub returns : goal.returns
-returns c = node_end c.requires.0 c.args.n c.row.result (omega (arith, c.if-node_kind-eq-CALL.false, c.requires.2, c.node_kind.ensures.0)) c.row.ensures
+returns c = node_end c.requires.0 c.args.n c.row.result (omega (arith, eqb-false _ _ (sym c.is_kind.ensures ∙ c.if-is_kind.false), c.requires.2)) c.row.ensures

@@ -1,8 +1,5 @@
-use Rattle.engine_queue.proofs.Moves.{able, row_true, row_false}
+use Rattle.engine_queue.proofs.Moves.{row_true, row_false}
 use Rattle.engine_queue.proofs.row.Goals as goal
-
-pub wake_row-requires : goal.wake_row-requires
-wake_row-requires c = (able c.requires.0, c.requires.1)
 
 pub returns-then-row : goal.returns-then-row
 returns-then-row c =

@@ -1,3 +1,4 @@
+use borrow.Author.Tests.{eqb-true, eqb-false}
 use mathlib.Core.Path.{◌≡◌, sym, ◌∙◌}
 use native.Mathlib.Omega.{arith}
 use borrow.Author.Tests.{eq-eqb, ne_eqb}
@@ -12,29 +13,29 @@ take_effect-requires c =
     let p = c.requires in
     (rw (c.exit_at-w.ensures, c.node_method.ensures.0) (exit_inside p.0 _ 0 (method_of p.0 _ p.1) (omega arith)), few_types p.0)
 
-pub returns-then-kind-eq-RETURN : goal.returns-then-kind-eq-RETURN
+pub returns-then-is_kind : goal.returns-then-is_kind
 unfolding end_walk
-returns-then-kind-eq-RETURN c =
-    let k = sym c.node_kind-kind.ensures.0 ∙ c.if-kind-eq-RETURN.true in
+returns-then-is_kind c =
+    let k = eqb-true _ _ (sym c.is_kind.ensures ∙ c.if-is_kind.true) in
     c.take_effect.ensures 5 ∙ simp (c.exit_at-w.ensures, c.node_method.ensures.0, eq-eqb _ _ k)
 
 pub leaving-requires : goal.leaving-requires
 leaving-requires c =
     let p = c.requires in
-    (p.0, p.1, rw c.node_number.ensures.0 (exception_of p.0 _ p.1 (sym c.node_kind-kind.ensures.0 ∙ c.if-kind-eq-THROW.true)))
+    (p.0, p.1, rw c.node_number.ensures.0 (exception_of p.0 _ p.1 (eqb-true _ _ (sym c.is_kind-2.ensures ∙ c.if-is_kind-2.true))))
 
-pub returns-then-kind-eq-THROW : goal.returns-then-kind-eq-THROW
+pub returns-then-is_kind-2 : goal.returns-then-is_kind-2
 unfolding end_walk
-returns-then-kind-eq-THROW c =
+returns-then-is_kind-2 c =
     let a = c.args in
-    let r : node_kind a.f.now a.t a.n ≡ return_kind → ⊥ = λ e. c.if-kind-eq-RETURN.false (c.node_kind-kind.ensures.0 ∙ e) in
-    let k = sym c.node_kind-kind.ensures.0 ∙ c.if-kind-eq-THROW.true in
+    let r : node_kind a.g.now.file.now a.g.now.tables a.n ≡ return_kind → ⊥ = eqb-false _ _ (sym c.is_kind.ensures ∙ c.if-is_kind.false) in
+    let k = eqb-true _ _ (sym c.is_kind-2.ensures ∙ c.if-is_kind-2.true) in
     c.leaving.ensures 4 6 ∙ simp (c.node_number.ensures.0, ne_eqb _ _ r, eq-eqb _ _ k)
 
 pub returns : goal.returns
 unfolding end_walk
 returns c =
     let a = c.args in
-    let r : node_kind a.f.now a.t a.n ≡ return_kind → ⊥ = λ e. c.if-kind-eq-RETURN.false (c.node_kind-kind.ensures.0 ∙ e) in
-    let k : node_kind a.f.now a.t a.n ≡ throw_kind → ⊥ = λ e. c.if-kind-eq-THROW.false (c.node_kind-kind.ensures.0 ∙ e) in
+    let r : node_kind a.g.now.file.now a.g.now.tables a.n ≡ return_kind → ⊥ = eqb-false _ _ (sym c.is_kind.ensures ∙ c.if-is_kind.false) in
+    let k : node_kind a.g.now.file.now a.g.now.tables a.n ≡ throw_kind → ⊥ = eqb-false _ _ (sym c.is_kind-2.ensures ∙ c.if-is_kind-2.false) in
     simp (ne_eqb _ _ r, ne_eqb _ _ k)

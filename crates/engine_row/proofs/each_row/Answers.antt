@@ -16,9 +16,6 @@ take_effect-told-requires c =
     let r = still_ready {q = c.loop-j.s} c.requires.0 (c.loop-j.invariant 0).long in
     (rw (c.node_at-w.ensures, c.target.ensures) (node_inside r _ (leads_inside r c.args.table _ (omega (arith, c.requires.1, c.loop-j-test.true)))), few_types r)
 
-pub overflow_add-j : goal.overflow_add-j
-overflow_add-j c = omega (arith, c.loop-j-test.true, c.well_formed.1.1.1.1.1.1.0)
-
 pub loop-j-preserved : goal.loop-j-preserved
 loop-j-preserved c =
     let a = c.args in

@@ -1,7 +1,6 @@
-use mathlib.Core.Path.{sym, ap, ◌∙◌}
+use mathlib.Core.Path.{sym, ◌∙◌}
 use native.Mathlib.Omega.{arith}
 use Rattle.graph_tables.specs.declared.Table.TheVariants.{Catches}
-use Rattle.graph_rows.specs.Rows.{no_rows}
 use Rattle.graph_rows.proofs.Stretches.{to_within}
 use Rattle.rule_ask.specs.Walk.{leaving_walk}
 use Rattle.rule_ready.proofs.Inside.{few_types, sorted, method_of, exit_inside}
@@ -20,13 +19,11 @@ take_effect-requires c =
 
 pub returns-then-no_rows : goal.returns-then-no_rows
 unfolding leaving_walk
-returns-then-no_rows c =
-    let u = ap no_rows (sym c.catches_of-handlers.ensures) ∙ sym c.no_rows.ensures ∙ c.if-no_rows.true in
-    λ caught out. c.take_effect.ensures out ∙ simp (c.exit_at-w.ensures, c.node_method.ensures.0, u)
+returns-then-no_rows c caught out =
+    c.take_effect.ensures out ∙ simp (c.exit_at-w.ensures, c.node_method.ensures.0, sym (rw c.catches_of-handlers.ensures at c.if-no_rows.ensures))
 
 pub returns : goal.returns
 unfolding leaving_walk
-returns c =
+returns c caught out =
     let rows = c.catches_of-handlers.ensures in
-    let u = ap no_rows (sym rows) ∙ sym c.no_rows.ensures ∙ c.if-no_rows.false in
-    λ caught out. c.each_row.ensures caught ∙ simp (rows, u)
+    c.each_row.ensures caught ∙ simp (rows, sym (rw rows at c.if-no_rows.ensures))

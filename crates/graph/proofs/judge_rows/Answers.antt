@@ -1,16 +1,35 @@
-use mathlib.Core.Path.{sym, ◌∙◌}
+use lib.Dec.{lit<}
 use borrow.Author.Tests.{lt-ltb, le-ltb}
-use Rattle.graph.proofs.Stages.{refused_first, left_to_later, first_sorted}
+use mathlib.Core.Path.{refl, sym, ◌∙◌}
+use Rattle.graph_scan.specs.Scan.{judge_tables}
+use Rattle.graph_scan.proofs.Stops.{stops, refuses}
+use Rattle.graph.specs.Judge.{judge_rows}
+use Rattle.graph.proofs.Stages.{first_sorted}
 use Rattle.graph.proofs.judge_rows.Goals as goal
 
-pub returns-then-number-ne0 : goal.returns-then-number-ne0
-returns-then-number-ne0 c = refused_first _ _ c.judge_tables-first.ensures (λ e. c.if-number-ne0.true (c.number.ensures ∙ e))
+pub returns-in_err-pass_tables : goal.returns-in_err-pass_tables
+unfolding judge_rows judge_tables
+returns-in_err-pass_tables c =
+    record {
+      first = c.in_err-pass_tables.ensures.first _ ∙ stops c.from_residual.result _ c.from_residual.ensures.1;
+      refusal = refuses c.from_residual.result _ c.from_residual.ensures.1 c.in_err-pass_tables.ensures.refusal;
+    }
 
 pub lowest_uncalled-n-requires : goal.lowest_uncalled-n-requires
-lowest_uncalled-n-requires c = first_sorted _ _ c.judge_tables-first.ensures (sym c.number.ensures ∙ c.if-number-ne0.false)
+lowest_uncalled-n-requires c = first_sorted _ _ (sym (c.in_ok-pass_tables.ensures.first _)) refl
 
-pub returns-then-n-t : goal.returns-then-n-t
-returns-then-n-t c = rw (left_to_later _ _ c.judge_tables-first.ensures (sym c.number.ensures ∙ c.if-number-ne0.false), ← c.lowest_uncalled-n.ensures, lt-ltb _ _ c.if-n-t.true) c.no_call_row_at.ensures
+pub returns-then-n-g : goal.returns-then-n-g
+unfolding judge_rows judge_tables
+returns-then-n-g c =
+    record {
+      first = c.in_ok-pass_tables.ensures.first _ ∙ rw (← c.lowest_uncalled-n.ensures, lt-ltb _ _ c.if-n-g.true) (sym c.no_call_row_at.ensures);
+      refusal = rw c.no_call_row_at.ensures (lit< tt);
+    }
 
 pub returns : goal.returns
-returns c = rw (left_to_later _ _ c.judge_tables-first.ensures (sym c.number.ensures ∙ c.if-number-ne0.false), ← c.lowest_uncalled-n.ensures, le-ltb _ _ c.if-n-t.false) c.refused.ensures
+unfolding judge_rows judge_tables
+returns c =
+    record {
+      first = c.in_ok-pass_tables.ensures.first _ ∙ rw (← c.lowest_uncalled-n.ensures, le-ltb _ _ c.if-n-g.false) (c.pass_table.ensures.first _);
+      refusal = c.pass_table.ensures.refusal;
+    }

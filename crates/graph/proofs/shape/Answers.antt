@@ -1,12 +1,13 @@
-use mathlib.Core.Path.{sym, ◌∙◌}
-use borrow.Author.Tests.{eq-eqb, ne_eqb}
+use borrow.Author.Tests.{ne_eqb}
+use Rattle.answer.specs.Number.{number_of}
+use Rattle.answer.proofs.Unpack.{zero_pass}
 use Rattle.graph.specs.Judgement.{shape_for}
 use Rattle.graph.proofs.shape.Goals as goal
 
-pub returns-then-number-eq0 : goal.returns-then-number-eq0
+pub returns-in-Pass : goal.returns-in-Pass
 unfolding shape_for
-returns-then-number-eq0 c = simp (eq-eqb _ _ (sym c.number.ensures ∙ c.if-number-eq0.true))
+returns-in-Pass c = simp c.in-Pass.is
 
-pub returns : goal.returns
+pub returns-in_default : goal.returns-in_default
 unfolding shape_for
-returns c = simp (ne_eqb _ _ (λ e. c.if-number-eq0.false (c.number.ensures ∙ e)))
+returns-in_default c = simp (ne_eqb (number_of c.args.a) 0 (λ e. c.in_default.not-Pass (zero_pass c.args.a e)))

@@ -7,6 +7,6 @@ returns c =
     simp (
       c.call_node-node.ensures,
       c.call_method-method.ensures,
-      c.node_kind-kind.ensures.0,
+      c.is_kind-calls.ensures,
       c.call_not_above-falls.ensures,
     )

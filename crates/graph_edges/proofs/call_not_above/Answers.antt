@@ -1,20 +1,12 @@
 use borrow.Author.Tests.{eq-eqb, ne_eqb}
-use Rattle.graph_refuse.specs.Bad.{above, not_above, call_row}
+use Rattle.graph_edges.proofs.Above.{two_above}
+use Rattle.graph_refuse.specs.Bad.{not_above, call_row}
 use Rattle.graph_edges.proofs.call_not_above.Goals as goal
 
-pub returns-then-k-eq0 : goal.returns-then-k-eq0
-unfolding not_above
-returns-then-k-eq0 c = simp (eq-eqb _ _ c.if-k-eq0.true)
+pub returns-then-k-ne0 : goal.returns-then-k-ne0
+unfolding not_above call_row
+returns-then-k-ne0 c = simp (ne_eqb _ _ c.if-k-ne0.true, c.le.ensures, c.call_row.ensures, c.call_row-then-k-ne0.ensures, two_above)
 
-pub returns : goal.returns
-unfolding above not_above call_row
-returns c =
-    simp (
-      ne_eqb _ _ c.if-k-eq0.false,
-      c.call_method.ensures,
-      c.call_method-2.ensures,
-      c.above-method.ensures,
-      c.call_node.ensures,
-      c.call_node-2.ensures,
-      c.above.ensures,
-    )
+pub returns-else-k-ne0 : goal.returns-else-k-ne0
+unfolding not_above
+returns-else-k-ne0 c = simp (eq-eqb _ _ c.if-k-ne0.false)

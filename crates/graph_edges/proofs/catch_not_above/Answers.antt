@@ -1,23 +1,12 @@
 use borrow.Author.Tests.{eq-eqb, ne_eqb}
-use Rattle.graph_refuse.specs.Bad.{above, not_above, catch_row}
+use Rattle.graph_edges.proofs.Above.{three_above}
+use Rattle.graph_refuse.specs.Bad.{not_above, catch_row}
 use Rattle.graph_edges.proofs.catch_not_above.Goals as goal
 
-pub returns-then-k-eq0 : goal.returns-then-k-eq0
-unfolding not_above
-returns-then-k-eq0 c = simp (eq-eqb _ _ c.if-k-eq0.true)
+pub returns-then-k-ne0 : goal.returns-then-k-ne0
+unfolding not_above catch_row
+returns-then-k-ne0 c = simp (ne_eqb _ _ c.if-k-ne0.true, c.le.ensures, c.catch_row.ensures, c.catch_row-then-k-ne0.ensures, three_above)
 
-pub returns : goal.returns
-unfolding above not_above catch_row
-returns c =
-    simp (
-      ne_eqb _ _ c.if-k-eq0.false,
-      c.catch_to.ensures,
-      c.catch_to-2.ensures,
-      c.above-to.ensures,
-      c.catch_exception.ensures,
-      c.catch_exception-2.ensures,
-      c.above-exception.ensures,
-      c.catch_from.ensures,
-      c.catch_from-2.ensures,
-      c.above.ensures,
-    )
+pub returns-else-k-ne0 : goal.returns-else-k-ne0
+unfolding not_above
+returns-else-k-ne0 c = simp (eq-eqb _ _ c.if-k-ne0.false)

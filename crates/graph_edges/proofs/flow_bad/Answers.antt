@@ -7,7 +7,8 @@ returns c =
     simp (
       c.flow_from-from.ensures,
       c.flow_to-to.ensures,
-      c.node_kind-kind.ensures.0,
+      c.is_kind-returns.ensures,
+      c.is_kind-throws.ensures,
       c.node_method-a.ensures.0,
       c.node_method-b.ensures.0,
       c.flow_not_above-falls.ensures,

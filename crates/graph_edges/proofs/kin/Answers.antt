@@ -18,18 +18,18 @@ unfolding kin
 returns-then-kind-parent c =
     let a = c.args in
     let other = ne_eqb c.loop-kind.kind a.c c.loop-kind-test.true in
-    let last = nearest_last a.f.now a.t (is a.c) c.loop-kind.kind (rw (← c.parent-parent.ensures.0) c.if-kind-parent.true) in
+    let last = nearest_last a.g.now.file.now a.g.now.tables (is a.c) c.loop-kind.kind (rw (← c.parent-parent.ensures.0) c.if-kind-parent.true) in
     rw (c.loop-kind.invariant, last) (sym other)
 
 pub loop-kind-preserved : goal.loop-kind-preserved
 loop-kind-preserved c =
     let a = c.args in
     let other = ne_eqb c.loop-kind.kind a.c c.loop-kind-test.true in
-    c.loop-kind.invariant ∙ rw c.parent-parent.ensures.0 (nearest_up a.f.now a.t (is a.c) c.loop-kind.kind other (rw (← c.parent-parent.ensures.0) c.if-kind-parent.false))
+    c.loop-kind.invariant ∙ rw c.parent-parent.ensures.0 (nearest_up a.g.now.file.now a.g.now.tables (is a.c) c.loop-kind.kind other (rw (← c.parent-parent.ensures.0) c.if-kind-parent.false))
 
 pub returns : goal.returns
 unfolding kin
 returns c =
     let a = c.args in
     let same = eq-eqb c.loop-kind.kind a.c c.loop-kind-test.false in
-    rw (c.loop-kind.invariant, nearest_here a.f.now a.t (is a.c) c.loop-kind.kind same) (sym same)
+    rw (c.loop-kind.invariant, nearest_here a.g.now.file.now a.g.now.tables (is a.c) c.loop-kind.kind same) (sym same)

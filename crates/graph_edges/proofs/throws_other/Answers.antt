@@ -1,18 +1,16 @@
+use borrow.Author.Tests.{eqb-true}
 use mathlib.Core.Path.{sym, ◌∙◌}
-use borrow.Author.Tests.{ne_eqb}
 use Rattle.graph_refuse.specs.Bad.{throws_other}
 use Rattle.graph_edges.proofs.throws_other.Goals as goal
 
-pub returns-then-kind-eq-CALL : goal.returns-then-kind-eq-CALL
+pub returns-then-is_kind : goal.returns-then-is_kind
 unfolding throws_other
-returns-then-kind-eq-CALL c = simp (sym c.node_kind-kind.ensures.0 ∙ c.if-kind-eq-CALL.true)
+returns-then-is_kind c = simp (eqb-true _ _ (sym c.is_kind.ensures ∙ c.if-is_kind.true))
 
-pub returns-then-kind-ne-THROW : goal.returns-then-kind-ne-THROW
+pub returns-then-is_kind-2 : goal.returns-then-is_kind-2
 unfolding throws_other
-returns-then-kind-ne-THROW c =
-    let kind = c.node_kind-kind.ensures.0 in
-    simp (ne_eqb _ _ (λ e. c.if-kind-eq-CALL.false (kind ∙ e)), ne_eqb _ _ (λ e. c.if-kind-ne-THROW.true (kind ∙ e)))
+returns-then-is_kind-2 c = simp (sym c.is_kind.ensures ∙ c.if-is_kind.false, sym c.is_kind-2.ensures ∙ c.if-is_kind-2.true, ← c.node_number.ensures.0, c.kin.ensures)
 
 pub returns : goal.returns
 unfolding throws_other
-returns c = simp (sym c.node_kind-kind.ensures.0 ∙ c.if-kind-ne-THROW.false, ← c.node_number.ensures.0, c.kin.ensures)
+returns c = simp (sym c.is_kind.ensures ∙ c.if-is_kind.false, sym c.is_kind-2.ensures ∙ c.if-is_kind-2.false)

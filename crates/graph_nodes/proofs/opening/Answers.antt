@@ -1,11 +1,11 @@
-use mathlib.Core.List.{[], ◌∷◌}
-use Rattle.graph_nodes.specs.Nodes.{opening_in}
+use borrow.Author.Rules.{rules}
+use Rattle.graph_tables.specs.Fields.{opening_rights, opening_count}
+use Rattle.graph_nodes.specs.Nodes.{for_type, opening_in}
 use Rattle.graph_nodes.proofs.opening.Goals as goal
 
 pub returns : goal.returns
 unfolding opening_in
 returns c =
-    λ i. record {
-      rights = c.rights_of.ensures i ∷ c.rights_of-2.ensures i ∷ c.rights_of-3.ensures i ∷ c.rights_of-4.ensures i ∷ c.rights_of-5.ensures i ∷ c.rights_of-6.ensures i ∷ [];
-      counts = c.count_of.ensures i ∷ c.count_of-2.ensures i ∷ c.count_of-3.ensures i ∷ c.count_of-4.ensures i ∷ c.count_of-5.ensures i ∷ c.count_of-6.ensures i ∷ [];
-    }
+    let f = c.args.g.now.file.now in
+    let t = c.args.g.now.tables in
+    c.stock_of.ensures (λ k. record { rights = for_type t (opening_rights f t) k; count = for_type t (opening_count f t) k }) (λ k h l q. search rules)

@@ -13,26 +13,26 @@ found : (f : List ℕ) (t : Tables) (n kind : ℕ) {s : Stretch} {none b : Bool}
 unfolding has_own
 found f t n kind p q r = ap not (ap no_rows (sym p) ∙ sym q ∙ r)
 
-pub loop-t-init : goal.loop-t-init
-loop-t-init c = (c.own_of-own.ensures, refl)
+pub loop-parent-init : goal.loop-parent-init
+loop-parent-init c = (c.own_of-own.ensures, refl)
 
 pub returns-then-kind-parent : goal.returns-then-kind-parent
 returns-then-kind-parent c =
     let a = c.args in
-    let last = nearest_last a.f.now a.t (has_own a.f.now a.t a.n) c.loop-t.kind (rw (← c.parent-parent.ensures.0) c.if-kind-parent.true) in
-    c.loop-t.invariant.0 ∙ ap (own_of a.f.now a.t a.n) (sym (c.loop-t.invariant.1 ∙ last))
+    let last = nearest_last a.g.now.file.now a.g.now.tables (has_own a.g.now.file.now a.g.now.tables a.n) c.loop-parent.kind (rw (← c.parent-parent.ensures.0) c.if-kind-parent.true) in
+    c.loop-parent.invariant.0 ∙ ap (own_of a.g.now.file.now a.g.now.tables a.n) (sym (c.loop-parent.invariant.1 ∙ last))
 
-pub loop-t-preserved : goal.loop-t-preserved
-loop-t-preserved c =
+pub loop-parent-preserved : goal.loop-parent-preserved
+loop-parent-preserved c =
     let a = c.args in
-    let f = a.f.now in
-    let empty = found f a.t a.n c.loop-t.kind c.loop-t.invariant.0 c.no_rows.ensures c.loop-t-test.true in
-    let up = nearest_up f a.t (has_own f a.t a.n) c.loop-t.kind empty (rw (← c.parent-parent.ensures.0) c.if-kind-parent.false) in
-    (c.own_of-own-in-loop-t.ensures, c.loop-t.invariant.1 ∙ rw c.parent-parent.ensures.0 up)
+    let f = a.g.now.file.now in
+    let empty = found f a.g.now.tables a.n c.loop-parent.kind c.loop-parent.invariant.0 c.no_rows.ensures c.loop-parent-test.true in
+    let up = nearest_up f a.g.now.tables (has_own f a.g.now.tables a.n) c.loop-parent.kind empty (rw (← c.parent-parent.ensures.0) c.if-kind-parent.false) in
+    (c.own_of-own-in-loop-parent.ensures, c.loop-parent.invariant.1 ∙ rw c.parent-parent.ensures.0 up)
 
 pub returns : goal.returns
 returns c =
     let a = c.args in
-    let f = a.f.now in
-    let some = found f a.t a.n c.loop-t.kind c.loop-t.invariant.0 c.no_rows.ensures c.loop-t-test.false in
-    c.loop-t.invariant.0 ∙ ap (own_of f a.t a.n) (sym (c.loop-t.invariant.1 ∙ nearest_here f a.t (has_own f a.t a.n) c.loop-t.kind some))
+    let f = a.g.now.file.now in
+    let some = found f a.g.now.tables a.n c.loop-parent.kind c.loop-parent.invariant.0 c.no_rows.ensures c.loop-parent-test.false in
+    c.loop-parent.invariant.0 ∙ ap (own_of f a.g.now.tables a.n) (sym (c.loop-parent.invariant.1 ∙ nearest_here f a.g.now.tables (has_own f a.g.now.tables a.n) c.loop-parent.kind some))

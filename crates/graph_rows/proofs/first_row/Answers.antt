@@ -22,7 +22,7 @@ loop-low-preserved c =
     let less = rw c.key.ensures at c.if-x-key.false in (
       search rules,
       search rules,
-      less_below _ (rows_of c.args.t c.args.table) c.args.x _ (c.requires c.args.table) (rw (← n) (search rules)) less,
+      less_below _ (rows_of c.args.g.now.tables c.args.table) c.args.x _ (c.requires c.args.table) (rw (← n) (search rules)) less,
       l.3,
     )
 
@@ -32,4 +32,4 @@ returns c =
     let l = c.loop-low.invariant in
     let a = c.args in
     let n = c.rows-high.ensures in
-    closed (AtLeast (key_of a.f.now a.t a.table) a.x) n l.0 (search rules) l.1 l.2 l.3
+    closed (AtLeast (key_of a.g.now.file.now a.g.now.tables a.table) a.x) n l.0 (search rules) l.1 l.2 l.3

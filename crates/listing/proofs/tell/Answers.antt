@@ -1,4 +1,5 @@
 use mathlib.Core.Path.{◌≡◌}
+use borrow.Author.Rules.{rules}
 use mathlib.Core.List.{List}
 use Prim.Native.Nat.{ℕ}
 use Rattle.answer.specs.declared.Answer.{Answer}
@@ -22,4 +23,6 @@ put_listing-requires c =
 pub returns : goal.returns
 returns c =
     let a = c.args in
-    pads a.out.now c.blank.ensures (retext c.put_listing.ensures (own-text a.f.now a.a a.s.now c.requires.0))
+    let same = c.put_listing.ensures.same in
+    let told = pads a.out.now c.blank.ensures (retext c.put_listing.ensures.puts (own-text a.f.now a.a a.s.now c.requires.0)) in
+    (search rules, told.1)

@@ -1,12 +1,14 @@
-use Prim.Native.Nat.{ℕ, ◌<◌}
-use mathlib.Core.Path.{◌≡◌, ap}
+use Prim.Native.Nat.{ℕ}
 use mathlib.Core.List.{List}
+use mathlib.Core.Path.{ap}
 use native.Mathlib.Omega.{arith}
 use borrow.Author.Rules.{rules}
+use lib.ListN.{length}
 use Rattle.effect.specs.declared.Stock.{Stock}
 use Rattle.effect.specs.Six.{held_at}
-use Rattle.listing_first.specs.Listing.{stock_line, stock_lines}
-use Rattle.words_digits.proofs.Join.{retext, start, turn, room}
+use Rattle.listing_first.specs.Listing.{stock_line}
+use Rattle.words_digits.proofs.Join.{room}
+use Rattle.words_digits.proofs.Written.{start, turn, retext}
 use Rattle.listing_lines.proofs.put_stock.Goals as goal
 
 abbrev line : ℕ → Stock → ℕ → List ℕ
@@ -14,22 +16,17 @@ line n held k = stock_line n k (held_at held k)
 
 pub loop-k-init : goal.loop-k-init
 loop-k-init c =
-    let a = c.args in (search rules, start (line a.n a.held) a.out.now a.at (omega arith))
+    let a = c.args in start (line a.n a.held) a.text.now (omega arith)
 
-pub put_line-end-requires : goal.put_line-end-requires
-put_line-end-requires c =
+pub put_line-requires : goal.put_line-requires
+put_line-requires c =
     let a = c.args in
-    let h : c.loop-k.k < a.types = search rules in
-    (search rules, (search rules, omega (arith, room (line a.n a.held) c.loop-k.k a.types h)))
+    let l = c.loop-k in
+    let w = l.invariant.puts in
+    omega (arith, w.ends, w.long, room (line a.n a.held) l.k a.types (search rules), ap (λ h. length (stock_line a.n l.k h)) c.held_at.ensures)
 
 pub loop-k-preserved : goal.loop-k-preserved
 loop-k-preserved c =
     let a = c.args in
-    (search rules, turn (line a.n a.held) c.loop-k.k c.loop-k.invariant.1 c.put_line-end.ensures)
-
-pub returns : goal.returns
-returns c =
-    let l = c.loop-k in
-    let a = c.args in
-    let e : l.k ≡ a.types = search rules in
-    retext l.invariant.1 (ap (stock_lines a.n a.held) e)
+    let k = c.loop-k.k in
+    turn (line a.n a.held) k c.loop-k.invariant (retext c.put_line.ensures (ap (stock_line a.n k) c.held_at.ensures))

@@ -5,7 +5,7 @@ pub returns : goal.returns
 unfolding asks
 returns c =
     simp (
-      c.node_kind-kind.ensures.0,
+      c.is_kind-grants.ensures,
       c.node_number-granted.ensures.0,
       c.node_number-drawn.ensures.0,
       c.node_rights-given.ensures,

@@ -3,4 +3,4 @@ use Rattle.profile_looks.proofs.is_draw.Goals as goal
 
 pub returns : goal.returns
 unfolding is_draw
-returns c = simp c.node_kind.ensures.0
+returns c = simp c.is_kind.ensures

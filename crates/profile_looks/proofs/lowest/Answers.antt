@@ -8,16 +8,16 @@ use Rattle.profile_looks.proofs.lowest.Goals as goal
 
 pub loop-k-init : goal.loop-k-init
 unfolding in_turn
-loop-k-init c = (omega arith, refl)
+loop-k-init c = refl
 
 pub loop-k-preserved : goal.loop-k-preserved
 loop-k-preserved c =
     let a = c.args in
-    (omega arith, least_more a.t.nodes (convicted a.f.now a.t a.look) c.loop-k.k c.loop-k.invariant.1 c.convicted.ensures c.smaller-least.ensures)
+    least_more a.g.now.tables.nodes (convicted a.g.now.file.now a.g.now.tables a.look) c.loop-k.k c.loop-k.invariant c.convicted.ensures c.min-least.ensures
 
 pub returns : goal.returns
 unfolding lowest_of
 returns c =
     let a = c.args in
-    let q : c.loop-k.k ≡ c.rows-n.result = omega (arith, c.loop-k.invariant.0) in
-    c.loop-k.invariant.1 ∙ ap (least_of a.t.nodes (convicted a.f.now a.t a.look)) (q ∙ c.rows-n.ensures)
+    let q : c.loop-k.k ≡ c.rows-k-end.result = omega (arith, c.loop-k.auto.k-end, c.loop-k-test.false) in
+    c.loop-k.invariant ∙ ap (least_of a.g.now.tables.nodes (convicted a.g.now.file.now a.g.now.tables a.look)) (q ∙ c.rows-k-end.ensures)

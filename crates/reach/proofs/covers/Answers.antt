@@ -19,7 +19,7 @@ returns-then-k-lt6 c =
     let p = c.one.ensures ∙ ap (λ j. one_at (effect_at a.s.now a.x.types j) a.k) w in
     let q = c.held.ensures ∙ ap (λ j. held_at (stock_at a.s.now a.x.types j) a.k) v in
     c.covers.ensures
-    ∙ ap (λ h. covers_held h a.rights) (c.apply-held.ensures ∙ (λ i. apply_one (p i) (q i)) ∙ sym (applied_at (effect_at a.s.now a.x.types (node_at a.x a.n)) (stock_at a.s.now a.x.types (method_at a.x (node_method a.f.now a.t a.n))) a.k c.if-k-lt6.true))
+    ∙ ap (λ h. covers_held h a.rights) (c.apply-held.ensures ∙ (λ i. apply_one (p i) (q i)) ∙ sym (applied_at (effect_at a.s.now a.x.types (node_at a.x a.n)) (stock_at a.s.now a.x.types (method_at a.x (node_method a.g.now.file.now a.g.now.tables a.n))) a.k c.if-k-lt6.true))
     ∙ simp (lt-ltb a.k 6 c.if-k-lt6.true)
 
 pub returns : goal.returns

@@ -1,7 +1,5 @@
 use mathlib.Core.Path.{ap, ◌∙◌}
 use mathlib.Core.Bool.{◌&&◌}
-use lib.Dec.{leb}
-use Rattle.graph_tables.specs.Kinds.{draw_kind}
 use Rattle.sheet.specs.Read.{marked}
 use Rattle.rule_ask.specs.Gives.{goes_in}
 use Rattle.rule_ask.proofs.goes.Goals as goal
@@ -10,4 +8,4 @@ pub returns : goal.returns
 unfolding goes_in
 returns c =
     let a = c.args in
-    λ i. leb (c.node_kind.ensures.0 i) draw_kind && (c.is_marked.ensures ∙ ap (marked a.s.now) c.node_at.ensures) i
+    λ i. c.goes_on.ensures i && (c.is_marked.ensures ∙ ap (marked a.s.now) c.node_at.ensures) i

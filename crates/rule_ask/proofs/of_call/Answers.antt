@@ -19,6 +19,6 @@ returns c =
     let r = c.is_marked-returns.ensures ∙ ap (marked a.s.now) q in
     let e = c.effect-call.ensures ∙ ap (effect_at a.s.now a.x.types) p in
     let o = c.effect-exit.ensures ∙ ap (effect_at a.s.now a.x.types) q in
-    let k = c.node_count-repeats.ensures.0 ∙ ap (node_count a.f.now a.t) n in
+    let k = c.node_count-repeats.ensures.0 ∙ ap (node_count a.g.now.file.now a.g.now.tables) n in
     let g = c.of_call.ensures ∙ (λ i. rounds_of (e i) (b i && r i) (o i) (k i)) in
     λ i. record { node = n i; method = m i; marked = b i; returns = r i; rounds = g i }

@@ -16,7 +16,7 @@ pub returns-then-in_place : goal.returns-then-in_place
 unfolding stepped_in
 returns-then-in_place c =
     let a = c.args in
-    let e = (λ i. effect_of (λ k. one_if (eqb k (c.node_number-own.ensures.0 i)) c.own_step-step.result)) ∙ sym (own_step_means a.f.now a.t a.n c.own_step-step.ensures) in
+    let e = (λ i. effect_of (λ k. one_if (eqb k (c.node_number-own.ensures.0 i)) c.own_step-step.result)) ∙ sym (own_step_means a.g.now.file.now a.g.now.tables a.n c.own_step-step.ensures) in
     c.stepped_fails.ensures ∙ (λ i. fails_of (effect_at a.s.now a.x.types a.v) (then_of (effect_at a.s.now a.x.types (c.node_at-w.ensures i)) (e i)))
 
 pub returns : goal.returns

@@ -11,7 +11,7 @@ returns-then-c c =
     let a = c.args in
     let r : a.c.returns ≡ true = c.if-c.true in
     c.of_rows.ensures
-    ∙ ap (λ z. rows_walk a.f.now a.t a.x (λ v. a.s.now) (lessened a.x a.s.now) Flow 7 a.c.rounds.whole z a.least) c.flow_of-rows.ensures
+    ∙ ap (λ z. rows_walk a.g.now.file.now a.g.now.tables a.x (λ v. a.s.now) (lessened a.x a.s.now) Flow 7 a.c.rounds.whole z a.least) c.flow_of-rows.ensures
     ∙ simp r
 
 pub returns : goal.returns

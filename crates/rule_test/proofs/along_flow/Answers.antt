@@ -12,16 +12,16 @@ unfolding flow_walk
 returns-then-goes c =
     let a = c.args in
     let n = c.flow_from-from.ensures in
-    let g : goes_in a.f.now a.t a.x a.s.now (flow_from a.f.now a.t a.k) ≡ true = ap (goes_in a.f.now a.t a.x a.s.now) (sym n) ∙ sym c.goes.ensures ∙ c.if-goes.true in
+    let g : goes_in a.g.now.file.now a.g.now.tables a.x a.s.now (flow_from a.g.now.file.now a.g.now.tables a.k) ≡ true = ap (goes_in a.g.now.file.now a.g.now.tables a.x a.s.now) (sym n) ∙ sym c.goes.ensures ∙ c.if-goes.true in
     c.flow_key.ensures
     ∙ (λ i. lessened a.x a.s.now
-    (of_effect 3 ((c.node_at-w.ensures ∙ ap (node_at a.x) c.flow_to.ensures) i) (stepped_in a.f.now a.t a.x a.s.now (n i))) a.least)
+    (of_effect 3 ((c.node_at-w.ensures ∙ ap (node_at a.x) c.flow_to.ensures) i) (stepped_in a.g.now.file.now a.g.now.tables a.x a.s.now (n i))) a.least)
     ∙ simp g
 
 pub returns : goal.returns
 unfolding flow_walk
 returns c =
     let a = c.args in
-    let g : goes_in a.f.now a.t a.x a.s.now (flow_from a.f.now a.t a.k) ≡ false =
-    ap (goes_in a.f.now a.t a.x a.s.now) (sym c.flow_from-from.ensures) ∙ sym c.goes.ensures ∙ c.if-goes.false in
+    let g : goes_in a.g.now.file.now a.g.now.tables a.x a.s.now (flow_from a.g.now.file.now a.g.now.tables a.k) ≡ false =
+    ap (goes_in a.g.now.file.now a.g.now.tables a.x a.s.now) (sym c.flow_from-from.ensures) ∙ sym c.goes.ensures ∙ c.if-goes.false in
     simp g

@@ -1,24 +1,19 @@
 use Prim.Native.Nat.{min}
-use mathlib.Core.Path.{◌≡◌, sym, ap, ◌∙◌}
-use mathlib.Core.Bool.{true, false}
-use Rattle.effect.proofs.Failing.{fails_lowest}
-use Rattle.sheet.specs.Read.{marked}
-use Rattle.rule_test.specs.Keys.{key_if, lessened}
+use mathlib.Core.Path.{ap, ◌∙◌}
+use borrow.Author.Rules.{rules}
+use Rattle.rule_ask.specs.Walk.{of_effect}
+use Rattle.rule_test.specs.Keys.{lessened}
+use Rattle.rule_test.proofs.Keys.{key_within, key_is}
 use Rattle.rule_test.proofs.effect_key.Goals as goal
 
-pub at_type-requires : goal.at_type-requires
-at_type-requires c = rw c.effect_fails-k.ensures (fails_lowest _ _).within
-
-pub returns-then-is_marked : goal.returns-then-is_marked
-unfolding lessened
-returns-then-is_marked c =
+pub key_of-requires : goal.key_of-requires
+key_of-requires c =
     let a = c.args in
-    let m : marked a.s.now a.w ≡ true = sym c.is_marked.ensures ∙ c.if-is_marked.true in
-    c.smaller.ensures ∙ ap (min a.least) (c.at_type.ensures ∙ ap (key_if true a.rule) c.effect_fails-k.ensures) ∙ simp m
+    key_within a.x a.s.now (of_effect a.rule a.w a.e) _ (λ k p. search rules) _ c.then-fails.ensures.some
 
 pub returns : goal.returns
 unfolding lessened
 returns c =
     let a = c.args in
-    let m : marked a.s.now a.w ≡ false = sym c.is_marked.ensures ∙ c.if-is_marked.false in
-    c.smaller-2.ensures ∙ simp m
+    c.min.ensures
+    ∙ ap (min a.least) (c.key_of.ensures ∙ key_is a.x a.s.now (of_effect a.rule a.w a.e) _ (λ k p. search rules) _ c.then-fails.ensures.some (c.then-fails.ensures.variant ∙ c.is_marked.ensures))

@@ -8,4 +8,4 @@ pub returns : goal.returns
 unfolding least_key sheet_walk
 returns c =
     let a = c.args in
-    c.of_tables.ensures ∙ ap (tables_walk a.f.now a.t a.x (λ v. a.s.now) (lessened a.x a.s.now) false) c.at_start.ensures
+    c.of_tables.ensures ∙ ap (tables_walk a.g.now.file.now a.g.now.tables a.x (λ v. a.s.now) (lessened a.x a.s.now) false) c.at_start.ensures

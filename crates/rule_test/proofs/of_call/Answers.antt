@@ -12,8 +12,8 @@ returns-then-c c =
     let m : c.of_call-c.result.marked ≡ true = c.if-c.true in
     rw (← c.of_call-c.ensures)
     (c.all_thrown.ensures
-    ∙ ap (in_turn (thrown_walk a.f.now a.t a.x (λ v. a.s.now) (lessened a.x a.s.now) c.of_call-c.result) 0 8)
-    (c.into_call-into.ensures ∙ ap (into_walk a.f.now a.t a.x (λ v. a.s.now) (lessened a.x a.s.now) c.of_call-c.result) c.after_call-after.ensures)
+    ∙ ap (in_turn (thrown_walk a.g.now.file.now a.g.now.tables a.x (λ v. a.s.now) (lessened a.x a.s.now) c.of_call-c.result) 0 8)
+    (c.into_call-into.ensures ∙ ap (into_walk a.g.now.file.now a.g.now.tables a.x (λ v. a.s.now) (lessened a.x a.s.now) c.of_call-c.result) c.after_call-after.ensures)
     ∙ simp m)
 
 pub returns : goal.returns

@@ -8,7 +8,4 @@ use Rattle.rule_test.specs.Keys.{lessened}
 use Rattle.rule_test.proofs.of_rows.Given as goal
 
 abbrev pub invariant-loop-j : goal.invariant-loop-j
-invariant-loop-j l = (l.initial.j ≤ l.j) × (l.j - l.initial.j ≤ l.end - l.initial.j) × (l.key ≡ in_turn (λ k. lessened l.x l.s (of_effect l.rule (node_at l.x (target_of l.f l.t l.table k)) l.e)) l.initial.j (l.j - l.initial.j) l.least)
-
-abbrev pub decreases-loop-j : goal.decreases-loop-j
-decreases-loop-j l = l.end - l.j
+invariant-loop-j l = (l.initial.j ≤ l.j) × (l.j - l.initial.j ≤ l.j-end - l.initial.j) × (l.key ≡ in_turn (λ k. lessened l.x l.s (of_effect l.rule (node_at l.x (target_of l.g.file.now l.g.tables l.table k)) l.e)) l.initial.j (l.j - l.initial.j) l.least)

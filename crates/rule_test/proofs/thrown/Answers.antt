@@ -13,7 +13,7 @@ returns-then-is_marked c =
     let a = c.args in
     let m : marked a.s.now (exit_at a.x a.c.method (1 + a.e)) ≡ true = ap (marked a.s.now) (sym c.exit_at.ensures) ∙ sym c.is_marked.ensures ∙ c.if-is_marked.true in
     c.leaving.ensures
-    ∙ ap (λ y. leaving_walk a.f.now a.t a.x (λ v. a.s.now) (lessened a.x a.s.now) 9 10 a.c.node a.e y a.least) c.thrown-y.ensures
+    ∙ ap (λ y. leaving_walk a.g.now.file.now a.g.now.tables a.x (λ v. a.s.now) (lessened a.x a.s.now) 9 10 a.c.node a.e y a.least) c.thrown-y.ensures
     ∙ simp m
 
 pub returns : goal.returns

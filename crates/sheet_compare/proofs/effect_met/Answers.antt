@@ -13,9 +13,9 @@ returns-then-is_marked c =
     let m : marked a.s.now a.v ≡ true = sym c.is_marked.ensures ∙ c.if-is_marked.true in
     ap (λ k. eqb k 6) c.effect_fails.ensures ∙ fails_none (effect_at a.s.now a.x.types a.v) a.e ∙ simp m
 
-pub returns : goal.returns
+pub returns-else-is_marked : goal.returns-else-is_marked
 unfolding effect_under
-returns c =
+returns-else-is_marked c =
     let a = c.args in
     let m : marked a.s.now a.v ≡ false = sym c.is_marked.ensures ∙ c.if-is_marked.false in
-    simp m
+    simp m c.if-is_marked.false

@@ -1,33 +1,20 @@
-use mathlib.Core.Path.{◌∙◌, ap}
-use borrow.Author.Count.{below_none}
 use borrow.Author.Rules.{rules}
+use Prim.Native.Nat.{ℕ}
+use mathlib.Core.Path.{refl, ◌≡◌, ◌∙◌}
+use mathlib.Core.Bool.{Bool, true, false, not}
+use Rattle.std.proofs.lemmas.Iterator.{first_from_Range}
+use Rattle.words.proofs.Lowest.{find_lowest}
 use Rattle.effect_one.specs.Formulas.{at_most_one}
 use Rattle.effect.specs.Six.{one_at}
+use Rattle.effect.specs.Whole.{fails_of}
 use Rattle.sheet.specs.Read.{effect_at}
-use Rattle.sheet_compare.proofs.Compare.{under_more, under_found, under_none}
-use mathlib.Core.Bool.{not}
 use Rattle.sheet_compare.proofs.inner_fails.Goals as goal
 
-pub loop-k-init : goal.loop-k-init
-loop-k-init c = (search rules, below_none _)
-
-pub returns-then-not-type_under : goal.returns-then-not-type_under
-returns-then-not-type_under c =
-    let a = c.args in
-    under_found (effect_at a.s.now a.t a.v) a.e c.loop-k.k c.loop-k.invariant.1
-    (c.type_under.ensures ∙ ap (at_most_one (one_at (effect_at a.s.now a.t a.v) c.loop-k.k)) c.one_at.ensures)
-    (search rules) (ap not c.if-not-type_under.true)
-
-pub loop-k-preserved : goal.loop-k-preserved
-loop-k-preserved c =
-    let a = c.args in (
-      search rules,
-      under_more (effect_at a.s.now a.t a.v) a.e c.loop-k.k c.loop-k.invariant.1
-          (c.type_under.ensures ∙ ap (at_most_one (one_at (effect_at a.s.now a.t a.v) c.loop-k.k)) c.one_at.ensures)
-          (ap not c.if-not-type_under.false),
-    )
-
 pub returns : goal.returns
+unfolding fails_of
 returns c =
     let a = c.args in
-    under_none (effect_at a.s.now a.t a.v) a.e (λ j u. c.loop-k.invariant.1 j (search rules))
+    let p : ℕ → Bool = λ k. not (at_most_one (one_at (effect_at a.s.now a.t a.v) k) (one_at a.e k)) in
+    c.unwrap_or.ensures
+    ∙ find_lowest p refl _
+    (first_from_Range _ _ _ _ (λ k. p k ≡ true) (λ k. p k ≡ false) c.find.ensures.ran (λ x q k. search rules) (λ x q k. search rules))

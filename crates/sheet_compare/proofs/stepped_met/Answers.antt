@@ -17,9 +17,9 @@ returns-then-is_marked c =
     ∙ fails_none (effect_at a.s.now a.x.types a.v) (then_of (effect_at a.s.now a.x.types a.w) (effect_of (λ k. one_if (eqb k a.n) a.y)))
     ∙ simp m
 
-pub returns : goal.returns
+pub returns-else-is_marked : goal.returns-else-is_marked
 unfolding effect_under
-returns c =
+returns-else-is_marked c =
     let a = c.args in
     let m : marked a.s.now a.v ≡ false = sym c.is_marked.ensures ∙ c.if-is_marked.false in
-    simp m
+    simp m c.if-is_marked.false

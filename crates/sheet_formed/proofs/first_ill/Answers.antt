@@ -1,22 +1,14 @@
-use mathlib.Core.Path.{sym, ◌∙◌}
-use borrow.Author.Count.{below_more, below_none}
 use borrow.Author.Rules.{rules}
-use Rattle.words.proofs.Lowest.{scan_found, scan_none}
+use mathlib.Core.Path.{◌≡◌, ◌∙◌}
+use mathlib.Core.Bool.{true, false}
+use Rattle.std.proofs.lemmas.Iterator.{first_from_Range}
+use Rattle.words.proofs.Lowest.{find_lowest}
 use Rattle.sheet_formed.specs.Ill.{ill_block}
 use Rattle.sheet_formed.proofs.first_ill.Goals as goal
 
-pub loop-b-init : goal.loop-b-init
-loop-b-init c = (search rules, below_none _)
-
-pub returns-then-block_ill : goal.returns-then-block_ill
-returns-then-block_ill c =
-    let a = c.args in
-    scan_found (ill_block a.s.now a.x) c.block_count-n.ensures c.loop-b.invariant.1 (search rules) (sym c.block_ill.ensures ∙ c.if-block_ill.true)
-
-pub loop-b-preserved : goal.loop-b-preserved
-loop-b-preserved c = (search rules, below_more _ _ c.loop-b.invariant.1 (sym c.block_ill.ensures ∙ c.if-block_ill.false))
-
 pub returns : goal.returns
 returns c =
-    let a = c.args in
-    scan_none (ill_block a.s.now a.x) c.block_count-n.ensures c.loop-b.invariant.1 (search rules)
+    let p = ill_block c.args.s.now c.args.x in
+    c.unwrap_or.ensures
+    ∙ find_lowest p c.block_count-n.ensures _
+    (first_from_Range _ _ _ _ (λ k. p k ≡ true) (λ k. p k ≡ false) c.find.ensures.ran (λ x q k. search rules) (λ x q k. search rules))

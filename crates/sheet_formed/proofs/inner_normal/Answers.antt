@@ -1,25 +1,19 @@
-use mathlib.Core.Path.{sym, ap, ◌∙◌}
-use borrow.Author.Count.{below_more, below_none}
-use borrow.Author.Tests.{not-true, not-false}
 use borrow.Author.Rules.{rules}
+use native.Mathlib.Omega.{arith}
+use Prim.Native.Nat.{ℕ}
+use mathlib.Core.Path.{◌≡◌, refl}
+use mathlib.Core.Bool.{true, false}
+use Rattle.std.proofs.lemmas.Iterator.{cases_from_all, YieldsList-from_range}
 use Rattle.effect_one.specs.Formulas.{normal_one}
-use Rattle.sheet_formed.proofs.Inner.{normal_found, normal_none}
-use mathlib.Core.Bool.{not}
+use Rattle.sheet.specs.Inner.{one_words}
+use Rattle.sheet_formed.proofs.Scan.{all_within}
+use Rattle.sheet_formed.proofs.Inner.{normal_is}
 use Rattle.sheet_formed.proofs.inner_normal.Goals as goal
-
-pub loop-k-init : goal.loop-k-init
-loop-k-init c = (search rules, below_none _)
-
-pub returns-then-not-normal : goal.returns-then-not-normal
-returns-then-not-normal c =
-    let a = c.args in
-    normal_found a.s.now a.t a.w c.requires.0 c.loop-k.k (search rules)
-    (sym (c.normal.ensures ∙ ap normal_one c.inner_one.ensures) ∙ not-true _ (ap not c.if-not-normal.true))
-
-pub loop-k-preserved : goal.loop-k-preserved
-loop-k-preserved c = (search rules, below_more _ _ c.loop-k.invariant.1 (sym (c.normal.ensures ∙ ap normal_one c.inner_one.ensures) ∙ not-false _ (ap not c.if-not-normal.false)))
 
 pub returns : goal.returns
 returns c =
     let a = c.args in
-    normal_none a.s.now a.t a.w c.requires.0 c.loop-k.k c.loop-k.invariant.1 (search rules)
+    let yes : ℕ → Type 0 = λ k. normal_one (one_words a.s.now a.w k) ≡ true in
+    let no : ℕ → Type 0 = λ k. normal_one (one_words a.s.now a.w k) ≡ false in
+    normal_is a.s.now a.t a.w c.requires.0 _
+    (all_within yes no a.t _ (cases_from_all _ _ _ yes no c.all.ensures.ran (YieldsList-from_range 0 a.t a.t refl (omega arith)) (λ k q h. search rules) (λ k q h. search rules)))

@@ -1,26 +1,17 @@
-use Prim.Native.Nat.{◌+◌, ◌*◌}
-use mathlib.Core.Path.{sym, ◌∙◌}
-use native.Mathlib.Omega.{arith}
 use borrow.Author.Rules.{rules}
-use Rattle.sheet_layout.specs.Layout.{effect_size}
-use Rattle.sheet_formed.proofs.Scan.{some_none}
-use Rattle.sheet_formed.proofs.Inner.{first_more, four_more, four_found}
+use native.Mathlib.Omega.{arith}
+use Prim.Native.Nat.{ℕ, ◌+◌, ◌*◌}
+use mathlib.Core.Path.{◌≡◌, refl}
+use Rattle.std.proofs.lemmas.Iterator.{cases_from_any, YieldsList-from_range}
+use Rattle.words.specs.Four.{four_at}
+use Rattle.sheet_formed.proofs.Scan.{any_within}
+use Rattle.sheet_formed.proofs.Inner.{some_inner}
 use Rattle.sheet_formed.proofs.inner_some.Goals as goal
-
-pub loop-k-init : goal.loop-k-init
-loop-k-init c = (omega arith, first_more c.args.s.now c.args.w c.requires.1)
-
-pub returns-then-inner_four-ne0 : goal.returns-then-inner_four-ne0
-returns-then-inner_four-ne0 c =
-    let a = c.args in
-    four_found a.s.now a.w (effect_size a.t) c.loop-k.k (search rules) (λ e. c.if-inner_four-ne0.true (c.inner_four.ensures ∙ e))
-
-pub loop-k-preserved : goal.loop-k-preserved
-loop-k-preserved c =
-    let a = c.args in
-    (search rules, four_more a.s.now a.w c.loop-k.k c.loop-k.invariant.1 (sym c.inner_four.ensures ∙ c.if-inner_four-ne0.false))
 
 pub returns : goal.returns
 returns c =
     let a = c.args in
-    some_none a.s.now a.w (effect_size a.t) (1 + 4 * c.loop-k.k) c.loop-k.invariant.1 (search rules)
+    let no : ℕ → Type 0 = λ k. four_at a.s.now (2 * (a.w + (1 + 4 * k))) ≡ 0 in
+    let yes : ℕ → Type 0 = λ k. no k → ⊥ in
+    some_inner a.s.now a.t a.w c.requires.1 _
+    (any_within yes no a.t _ (cases_from_any _ _ _ yes no c.any.ensures.ran (YieldsList-from_range 0 a.t a.t refl (omega arith)) (λ k q h. search rules) (λ k q h. search rules)))

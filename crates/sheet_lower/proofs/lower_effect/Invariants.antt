@@ -1,4 +1,3 @@
-use Prim.Native.Nat.{◌-◌, ◌≤◌}
 use mathlib.Core.Path.{◌≡◌}
 use lib.ListN.{length}
 use Rattle.sheet.specs.Read.{marked}
@@ -7,8 +6,7 @@ use Rattle.sheet_lower.proofs.Turn.{Laid}
 use Rattle.sheet_lower.proofs.lower_effect.Given as goal
 
 abbrev pub invariant-loop-k : goal.invariant-loop-k
-invariant-loop-k l = (l.k ≤ l.t) × (length l.s ≡ length l.initial.s) × (l.old ≡ marked l.initial.s l.w)
-    × Laid (lowered_effect l.initial.s l.t l.w (record { keepin = l.keepin; keepmax = l.keepmax; cap = l.cap; drop = l.drop })) l.initial.s l.w l.k l.s
-
-abbrev pub decreases-loop-k : goal.decreases-loop-k
-decreases-loop-k l = l.t - l.k
+invariant-loop-k l =
+    (length l.s ≡ length l.initial.s)
+    × (l.old ≡ marked l.initial.s l.w)
+    × Laid (lowered_effect l.initial.s l.t l.w l.e) l.initial.s l.w l.k l.s

@@ -1,13 +1,13 @@
 use mathlib.Core.Path.{refl}
-use borrow.Author.Rules.{rules}
 use Rattle.work.specs.Meaning.{refused}
 use Rattle.work.proofs.Sweeping.{passed_fitting, judged_refused}
 use Rattle.work.proofs.of_judged.Goals as goal
 
-pub of_passed-requires : goal.of_passed-requires
-of_passed-requires c = passed_fitting c.args.f.now c.args.j c.requires (search rules)
+pub invariant_of-of_passed : goal.invariant_of-of_passed
+invariant_of-of_passed c =
+    let own = passed_fitting c.args.f.now c.args.j c.requires c.in-Pass.is in record { passes = own.0; tables_are = own.1; shape_is = own.2 }
 
-pub returns : goal.returns
-returns c =
-    let no = judged_refused c.args.f.now c.args.j c.requires (search rules) in
+pub returns-in_default : goal.returns-in_default
+returns-in_default c =
+    let no = judged_refused c.args.f.now c.args.j c.requires c.in_default.not-Pass in
     refused no.0 refl no.1

@@ -4,8 +4,8 @@ use Rattle.engine_lower.proofs.Good.{height}
 use Rattle.work.specs.Swept.{Swept}
 use Rattle.work.proofs.settle.Given as goal
 
-abbrev pub invariant-loop-t : goal.invariant-loop-t
-invariant-loop-t l = (length l.s ≡ length l.initial.s) × Swept l.f l.t l.x l.initial.s l.s
+abbrev pub invariant-loop-x : goal.invariant-loop-x
+invariant-loop-x l = (length l.s ≡ length l.initial.s) × Swept l.g.file.now l.g.tables l.x l.initial.s l.s
 
-abbrev pub decreases-loop-t : goal.decreases-loop-t
-decreases-loop-t l = height l.x l.s
+abbrev pub decreases-loop-x : goal.decreases-loop-x
+decreases-loop-x l = height l.x l.s

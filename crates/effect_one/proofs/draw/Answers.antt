@@ -1,6 +1,0 @@
-use Rattle.effect_one.specs.Formulas.{drawn}
-use Rattle.effect_one.proofs.draw.Goals as goal
-
-pub returns : goal.returns
-unfolding drawn
-returns c = c.dropping.ensures

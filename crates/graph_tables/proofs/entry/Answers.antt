@@ -1,7 +1,0 @@
-use native.Mathlib.Nat.{add-zero, zero-add}
-use Rattle.graph_tables.specs.Fields.{entry_of}
-use Rattle.graph_tables.proofs.entry.Goals as goal
-
-pub returns : goal.returns
-unfolding entry_of
-returns c = rw (add-zero, zero-add) at c.word_of.ensures

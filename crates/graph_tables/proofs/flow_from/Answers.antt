@@ -1,7 +1,0 @@
-use native.Mathlib.Nat.{add-zero}
-use Rattle.graph_tables.specs.Fields.{flow_from}
-use Rattle.graph_tables.proofs.flow_from.Goals as goal
-
-pub returns : goal.returns
-unfolding flow_from
-returns c = rw add-zero at c.word_of.ensures

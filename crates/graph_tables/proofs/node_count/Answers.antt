@@ -1,7 +1,0 @@
-use Rattle.graph_tables.specs.Fields.{node_count}
-use borrow.Author.Rules.{rules}
-use Rattle.graph_tables.proofs.node_count.Goals as goal
-
-pub returns : goal.returns
-unfolding node_count
-returns c = search rules

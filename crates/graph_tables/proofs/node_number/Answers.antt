@@ -1,7 +1,0 @@
-use Rattle.graph_tables.specs.Fields.{node_number}
-use borrow.Author.Rules.{rules}
-use Rattle.graph_tables.proofs.node_number.Goals as goal
-
-pub returns : goal.returns
-unfolding node_number
-returns c = search rules
