@@ -126,13 +126,14 @@ fn pass_on(g: &Graph, area: &mut [u8], k: u16)
     }
 }
 
-// So for every call row.
+// So for every call row. By a copy of the graph: through the loan its fields were read again for each row.
 fn pass_all_on(g: &Graph, area: &mut [u8])
     requires { Able g.now.file.now g.now.tables area.old }
     ensures { Woken area.old area.new × PassedOn g.now.file.now g.now.tables area.old area.new g.now.tables.calls }
 {
-    for k in 0..g.tables.calls {
-        pass_on(g, area, k);
+    let own = *g;
+    for k in 0..own.tables.calls {
+        pass_on(&own, area, k);
     }
 }
 

@@ -163,7 +163,7 @@ impl Graph<'_> {
     pub fn ends(&self, n: u16) -> bool
         ensures { result ≡ (eqb (node_kind self.now.file.now self.now.tables n) return_kind || eqb (node_kind self.now.file.now self.now.tables n) throw_kind) }
     {
-        self.is_kind(n, Kind::Return) | self.is_kind(n, Kind::Throw)
+        matches!(self.kind_at(n), Some(Kind::Return | Kind::Throw))
     }
 
     pub fn node_number(&self, n: u16) -> u16
