@@ -16,6 +16,7 @@ use Rattle.answer.specs.declared.Answer.TheVariants.{Pass, BadRow}
 use Rattle.answer.specs.Number.{number_of, place_of}
 use Rattle.answer.proofs.Settled.{says_only}
 use Rattle.answer.proofs.Unpack.{zero_pass}
+use Rattle.graph_tables.specs.declared.Tables.{Tables}
 use Rattle.graph_tables.specs.Trailer.{tables_of}
 use Rattle.graph_rows.specs.Rows.{Sorted}
 use Rattle.graph.specs.declared.PassedGraph.{PassedGraph}
@@ -24,6 +25,7 @@ use Rattle.graph.specs.Judgement.{shape_of}
 use Rattle.graph.proofs.Passed.{judged}
 use Rattle.graph.proofs.Rises.{rises}
 use Rattle.graph.proofs.Whole.{own_shape, shape_within}
+use Rattle.sheet_layout.specs.declared.Shape.{Shape}
 use Rattle.sheet_layout.specs.Layout.{Within, sheet_bytes}
 use Rattle.rule_test.specs.Sheet.{shape}
 use Rattle.accept.specs.Check.{judged_sheet, check_of}
@@ -54,14 +56,19 @@ as_checked p s =
     let f = p.graph.file.now in
     (λ j. judged_sheet f (p.tables_are j) (own p j) s) ∙ simp (eq-eqb (number_of (judge_of f)) 0 (ap number_of p.passes))
 
--- and for the part of the sheets that starts at i times their size what check answers for sheet i alone
-pub as_alone : (p : PassedGraph) (s : List ℕ) {size : ℕ} (i : ℕ) {a : Answer} → size ≡ sheet_bytes p.shape
-    → a ≡ judged_sheet p.graph.file.now p.graph.tables p.shape (take (i * size + size - i * size) (drop (i * size) s)) → a ≡ check_of p.graph.file.now (sheet_at p.graph.file.now s i)
-as_alone p s {size} i z q =
-    let f = p.graph.file.now in
-    let same : size ≡ sheet_bytes (shape f) = z ∙ ap sheet_bytes (own p) in
+-- and for the part of the sheets that starts at i times their size what check answers for sheet i alone:
+pub as_alone : (f s : List ℕ) {t : Tables} {x : Shape} {size : ℕ} (i : ℕ) {a : Answer} → judge_of f ≡ Pass → t ≡ tables_of f → x ≡ shape f → size ≡ sheet_bytes x
+    → a ≡ judged_sheet f t x (take (i * size + size - i * size) (drop (i * size) s)) → a ≡ check_of f (sheet_at f s i)
+unfolding check_of
+as_alone f s {size = size} i p e h z q =
+    let same : size ≡ sheet_bytes (shape f) = z ∙ ap sheet_bytes h in
     let long : i * size + size - i * size ≡ sheet_bytes (shape f) = omega arith in
-    q ∙ (λ j. judged_sheet f p.graph.tables p.shape (take (long j) (drop (i * same j) s))) ∙ as_checked p (sheet_at f s i)
+    q ∙ (λ j. judged_sheet f (e j) (h j) (take (long j) (drop (i * same j) s))) ∙ simp (eq-eqb (number_of (judge_of f)) 0 (ap number_of p))
+
+-- so for a file that is known to pass
+pub passed_alone : (p : PassedGraph) (s : List ℕ) {size : ℕ} (i : ℕ) {a : Answer} → size ≡ sheet_bytes p.shape
+    → a ≡ judged_sheet p.graph.file.now p.graph.tables p.shape (take (i * size + size - i * size) (drop (i * size) s)) → a ≡ check_of p.graph.file.now (sheet_at p.graph.file.now s i)
+passed_alone p s i = as_alone p.graph.file.now s i p.passes p.tables_are (own p)
 
 module _ (f s : List ℕ) where
   -- a row that tells of none, and of one sheet more

@@ -194,6 +194,10 @@ module _ (f : List ℕ) where
   same {a} {b} (passes h s) (refuses k l) = absurd (h b k)
   same (passes h s) (passes k u) = says_only Pass s ∙ sym (says_only Pass u)
 
+  -- of an answer that is known to be the judge's
+  pub judges_as : {a : Answer} → judge_of f ≡ a → Judges f a
+  judges_as e = subst (Judges f) e judges
+
   -- There is no second.
   pub judge_only : {a : Answer} → Judges f a → a ≡ judge_of f
   judge_only h = same h judges

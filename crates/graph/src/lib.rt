@@ -119,8 +119,10 @@ pub struct PassedGraph<'a> {
 }
 
 // The file as one that passes, or its refusal.
+#[tactic(auto, using(crate::proofs::Meaning::judges_as))]
 pub fn pass(f: &[u8]) -> Result<PassedGraph<'_>, Answer>
     ensures passes { IfOk result (λ p. p.graph.file.now ≡ f.now) }
+    ensures means { IfOk result (λ p. Judges f.now Pass) × IfErr result (λ a. Judges f.now a) }
     ensures refusal { IfErr result (λ a. (judge_of f.now ≡ a) × (0 < number_of a)) }
 {
     let tables = graph_trailer::read(f);

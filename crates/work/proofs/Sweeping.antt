@@ -5,8 +5,9 @@ use mathlib.Core.Bool.{Bool, true, not}
 use mathlib.Core.List.{List}
 use lib.ListN.{length}
 use Rattle.answer.specs.declared.Answer.TheVariants.{Pass, BadSheet}
-use Rattle.answer.specs.Number.{SaysAs}
+use Rattle.answer.specs.Number.{number_of, SaysAs}
 use Rattle.answer.proofs.Settled.{says}
+use Rattle.answer.proofs.Unpack.{zero_pass}
 use Rattle.graph_tables.specs.declared.Tables.{Tables}
 use Rattle.graph_tables.specs.Trailer.{tables_of}
 use Rattle.graph.specs.Judge.{judge_in, judge_of}
@@ -69,12 +70,22 @@ module _ {f : List ℕ} {t : Tables} {x : Shape} {s : List ℕ} (ready : Ready f
   pub answers : {r : List ℕ} → Settled f t x (blanked s) r → WorksOut f s r (verdict_of f t x r)
   answers {r} = own (λ y z. Settled f y z (blanked s) r → WorksOut f s r (verdict_of f y z r)) (λ h. verdict f s r long (settled_worked f pass s long h))
 
--- what the judgement of a file that passes says
-pub passed_fitting : (f : List ℕ) (j : Judgement) → j ≡ judged_of f → j.answer ≡ Pass → (judge_of f ≡ Pass) × (j.tables ≡ tables_of f) × (j.shape ≡ shape_of j.tables)
+-- tables and a shape that are the file's own, of one that passes
+abbrev pub Fitting : List ℕ → Tables → Shape → Type 0
+Fitting f t x = (judge_in f t ≡ Pass) × (t ≡ tables_of f) × (x ≡ shape_of t)
+
+-- what the judgement of a file that passes says,
+pub passed_fitting : (f : List ℕ) (j : Judgement) → j ≡ judged_of f → number_of j.answer ≡ 0 → Fitting f j.tables j.shape
 passed_fitting f j e n =
-    let p : judge_of f ≡ Pass = ap (λ y. y.answer) (sym e) ∙ n in
+    let p : judge_of f ≡ Pass = zero_pass _ (ap (λ y. number_of y.answer) (sym e) ∙ n) in
     let t = ap (λ y. y.tables) e in
-    (p, t, ap (λ y. y.shape) e ∙ own_shape f p ∙ ap shape_of (sym t))
+    (ap (judge_in f) t ∙ p, t, ap (λ y. y.shape) e ∙ own_shape f p ∙ ap shape_of (sym t))
+
+-- as a file that is known to pass says it,
+pub passed_own : (f : List ℕ) (j : Judgement) → j ≡ judged_of f → j.answer ≡ Pass → (judge_of f ≡ Pass) × (j.tables ≡ tables_of f) × (j.shape ≡ shape_of j.tables)
+passed_own f j e n =
+    let fit = passed_fitting f j e (ap number_of n) in
+    (subst (λ y. judge_in f y ≡ Pass) fit.1 fit.0, fit.1, fit.2)
 
 -- and of one that does not
 pub judged_refused : (f : List ℕ) (j : Judgement) → j ≡ judged_of f → (j.answer ≡ Pass → ⊥) → (judge_of f ≡ Pass → ⊥) × SaysAs j.answer (judge_of f)

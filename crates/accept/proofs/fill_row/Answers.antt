@@ -2,7 +2,7 @@ use mathlib.Core.Path.{◌≡◌, subst}
 use native.Mathlib.Omega.{arith}
 use borrow.Author.Rules.{rules}
 use Rattle.accept.specs.Many.{Told}
-use Rattle.accept.proofs.Many.{sheet_within, relies, as_alone, told_none, told_more}
+use Rattle.accept.proofs.Many.{sheet_within, relies, passed_alone, told_none, told_more}
 use Rattle.accept.proofs.fill_row.Goals as goal
 
 pub loop-i-init : goal.loop-i-init
@@ -20,7 +20,7 @@ of_judged-a-requires c = relies c.args.p.now
 pub loop-i-preserved : goal.loop-i-preserved
 loop-i-preserved c =
     let inv = c.loop-i.invariant in
-    let alone = as_alone c.args.p.now c.args.sheets.now c.loop-i.i c.sheet_bytes-size.ensures c.of_judged-a.ensures in
+    let alone = passed_alone c.args.p.now c.args.sheets.now c.loop-i.i c.sheet_bytes-size.ensures c.of_judged-a.ensures in
     (told_more _ _ inv.0 (search rules) alone c.put_answer.ensures, inv.1)
 
 pub returns : goal.returns

@@ -1,11 +1,11 @@
 use mathlib.Core.Path.{refl}
 use Rattle.work.specs.Meaning.{refused}
-use Rattle.work.proofs.Sweeping.{passed_fitting, judged_refused}
+use Rattle.work.proofs.Sweeping.{passed_own, judged_refused}
 use Rattle.work.proofs.of_judged.Goals as goal
 
 pub invariant_of-of_passed : goal.invariant_of-of_passed
 invariant_of-of_passed c =
-    let own = passed_fitting c.args.f.now c.args.j c.requires c.in-Pass.is in record { passes = own.0; tables_are = own.1; shape_is = own.2 }
+    let own = passed_own c.args.f.now c.args.j c.requires c.in-Pass.is in record { passes = own.0; tables_are = own.1; shape_is = own.2 }
 
 pub returns-in_default : goal.returns-in_default
 returns-in_default c =
